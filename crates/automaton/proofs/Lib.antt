@@ -1,0 +1,9 @@
+pub mod Targets
+pub mod Labels
+pub mod Preparing
+pub mod FewArrows
+pub mod Steps
+pub mod PaperArrows
+pub mod TotalCeiling
+pub mod Logarithm
+pub mod ByteCeiling

@@ -1,0 +1,73 @@
+-- log2 m is the logarithm rounded down: by halving, and by the powers of two around m. Assumes nothing.
+use mathlib.Core.Path.{_≡_, refl, sym, ap, _∙_}
+use Prim.Native.Nat.{ℕ, zero, suc, _+_, _*_, _/_, _^_, _≤_, _<_}
+use native.Mathlib.Omega.{arith}
+use native.Mathlib.Nat.{two-pow-succ}
+use lib.Pow.{pow-mono}
+use borrow.Author.Tests.{lt-ltb, le-ltb}
+use Rattle.words.proofs.Tests.{by-le}
+use Rattle.automaton.specs.Ceilings.{halvings, log2}
+
+halvings-small : (k m : ℕ) → m < 2 → halvings k m ≡ 0
+unfolding halvings
+halvings-small zero m h = refl
+halvings-small (suc k) m h = rw (lt-ltb m 2 h)
+
+halvings-large : (k m : ℕ) → 2 ≤ m → halvings (suc k) m ≡ suc (halvings k (m / 2))
+unfolding halvings
+halvings-large k m h = rw (le-ltb m 2 h)
+
+-- m times are enough, and more change nothing
+halvings-enough : (j k m : ℕ) → m ≤ j → m ≤ k → halvings j m ≡ halvings k m
+halvings-enough zero k m a b = halvings-small zero m (omega arith) ∙ sym (halvings-small k m (omega arith))
+halvings-enough (suc j) zero m a b = halvings-small (suc j) m (omega arith) ∙ sym (halvings-small zero m (omega arith))
+halvings-enough (suc j) (suc k) m a b =
+    by-le 2 m
+    (λ (h : 2 ≤ m). halvings-large j m h ∙ ap suc (halvings-enough j k (m / 2) (omega arith) (omega arith)) ∙ sym (halvings-large k m h))
+    (λ (h : m < 2). halvings-small (suc j) m h ∙ sym (halvings-small (suc k) m h))
+
+pub log2-small : (m : ℕ) → m < 2 → log2 m ≡ 0
+unfolding log2
+log2-small m h = halvings-small m m h
+
+pub log2-large : (m : ℕ) → 2 ≤ m → log2 m ≡ suc (log2 (m / 2))
+unfolding log2
+log2-large zero h = absurd (omega arith)
+log2-large (suc k) h = halvings-large k (suc k) h ∙ ap suc (halvings-enough k (suc k / 2) (suc k / 2) (omega arith) (omega arith))
+
+-- INDUCTION by halving
+pub by-halving : (P : ℕ → Type 0) → ((m : ℕ) → m < 2 → P m) → ((m : ℕ) → 2 ≤ m → P (m / 2) → P m) → (m : ℕ) → P m
+by-halving P small large m = go m m (omega arith)
+  where
+    go : (k m : ℕ) → m ≤ k → P m
+    go zero m l = small m (omega arith)
+    go (suc k) m l = by-le 2 m (λ (h : 2 ≤ m). large m h (go k (m / 2) (omega arith))) (λ (h : m < 2). small m h)
+
+-- 2 ^ log2 m ≤ m < 2 ^ (1 + log2 m)
+pub log2-low : (m : ℕ) → 1 ≤ m → 2 ^ log2 m ≤ m
+log2-low =
+    by-halving (λ m. 1 ≤ m → 2 ^ log2 m ≤ m)
+    (λ m h l. rw (log2-small m h) (omega arith))
+    (λ m h ih l. rw (log2-large m h) (omega (arith, ih (omega arith), two-pow-succ (log2 (m / 2)))))
+
+pub log2-high : (m : ℕ) → m < 2 ^ suc (log2 m)
+log2-high =
+    by-halving (λ m. m < 2 ^ suc (log2 m))
+    (λ m h. rw (log2-small m h) (omega arith))
+    (λ m h ih. rw (log2-large m h) (omega (arith, ih, two-pow-succ (suc (log2 (m / 2))))))
+
+pub log2-bound : (m : ℕ) → log2 m ≤ m
+log2-bound =
+    by-halving (λ m. log2 m ≤ m)
+    (λ m h. rw (log2-small m h) (omega arith))
+    (λ m h ih. rw (log2-large m h) (omega (arith, ih)))
+
+-- the largest exponent of a power up to 2m
+pub log2-exponent : (m a : ℕ) → 2 ^ a ≤ 2 * m → a ≤ 1 + log2 m
+log2-exponent m a h =
+    by-le a (1 + log2 m)
+    (λ (l : a ≤ 1 + log2 m). l)
+    (λ (l : 1 + log2 m < a).
+    let more : 2 + log2 m ≤ a = omega arith in
+    let at : 2 + log2 m ≡ suc (suc (log2 m)) = omega arith in
+    absurd (omega (arith, pow-mono more, ap (λ (k : ℕ). 2 ^ k) at, two-pow-succ (suc (log2 m)), log2-high m)))

@@ -1,0 +1,82 @@
+-- Steps by cases, what they cost and how far they lead. Assumes nothing.
+use mathlib.Core.Path.{_≡_, refl, sym, ap, _∙_}
+use mathlib.Core.Bool.{cond}
+use mathlib.Core.Logic.{_≢_}
+use mathlib.Core.List.{List, [], _∷_}
+use Prim.Native.Nat.{ℕ, zero, suc, _+_, _-_, _≤_, _<_}
+use native.Mathlib.Omega.{arith}
+use lib.Dec.{ltb, eqb}
+use lib.ListN.{length}
+use borrow.Author.Tests.{ltb-true, ltb-false, lt-ltb, eqb-true, eqb-false, eq-eqb, ne-eqb}
+use Rattle.words.specs.Words.{byte, Every}
+use Rattle.words.proofs.Tests.{by-test}
+use Rattle.automaton.specs.declared.Step.{Step}
+use Rattle.automaton.specs.declared.Arrow.the-variants.{Back, Forward, Nothing}
+use Rattle.automaton.specs.Arrows.{label, back-targets, step, try-forward, try-back, stepped}
+use Rattle.automaton.proofs.Targets.{label-suc, target-range}
+use Rattle.automaton.proofs.Preparing.{arrows}
+
+-- ONE LABEL
+module _ (b : ℕ) (ts : List ℕ) (k : ℕ) (w : List ℕ) (p c : ℕ) where
+  pub back-on : byte w b ≡ c → try-back (suc b ∷ ts) k w p c ≡ step (suc b) (suc k) (Back (suc b))
+  unfolding try-back
+  back-on e = rw (eq-eqb (label w (suc b)) c (label-suc w b ∙ e))
+
+  pub back-off : byte w b ≢ c → try-back (suc b ∷ ts) k w p c ≡ try-back ts (suc k) w p c
+  unfolding try-back
+  back-off n = rw (ne-eqb (label w (suc b)) c (λ e. n (sym (label-suc w b) ∙ e)))
+
+pub back-nil : (k : ℕ) (w : List ℕ) (p c : ℕ) → try-back [] k w p c ≡ try-forward k w p c
+unfolding try-back
+back-nil k w p c = refl
+
+module _ (k : ℕ) (w : List ℕ) (p c : ℕ) where
+  pub forward-on : p < length w → byte w p ≡ c → try-forward k w p c ≡ step (suc p) (suc k) Forward
+  unfolding try-forward
+  forward-on h e = rw (lt-ltb p (length w) h, eq-eqb (byte w p) c e)
+
+  pub forward-off : (p < length w → byte w p ≢ c) → try-forward k w p c .state ≡ 0
+  unfolding try-forward
+  forward-off f =
+      by-test (ltb p (length w))
+      (λ t. rw (t, ne-eqb (byte w p) c (f (ltb-true p (length w) t))))
+      (λ t. rw t)
+
+  -- the forward arrow is followed, it is not, or there is none
+  pub forward-cases : (Q : Step → Type 0) → (p < length w → byte w p ≡ c → Q (step (suc p) (suc k) Forward)) →
+      (p < length w → Q (step 0 (suc k) Nothing)) → (length w ≤ p → Q (step 0 k Nothing)) → Q (try-forward k w p c)
+  unfolding try-forward
+  forward-cases Q on off end =
+      by-test (ltb p (length w))
+      (λ t.
+      rw t
+      (by-test (eqb (byte w p) c)
+      (λ e. rw e (on (ltb-true p (length w) t) (eqb-true (byte w p) c e)))
+      (λ e. rw e (off (ltb-true p (length w) t)))))
+      (λ t. rw t (end (ltb-false p (length w) t)))
+
+-- what holds at each target, at a cost of at most all backward labels, and where none of them is equal, holds of a step
+back-cases : (Q : Step → Type 0) (P : ℕ → Type 0) (ts : List ℕ) (k : ℕ) (w : List ℕ) (p c : ℕ) → Every P ts →
+    ((t j : ℕ) → P t → j ≤ k + length ts → Q (step t j (Back t))) → Q (try-forward (k + length ts) w p c) → Q (try-back ts k w p c)
+unfolding try-back
+back-cases Q P [] k w p c all back front = let e : k + 0 ≡ k = omega arith in rw e at front
+back-cases Q P (t ∷ ts) k w p c all back front =
+    let e : k + suc (length ts) ≡ suc k + length ts = omega arith in
+    by-test (eqb (label w t) c)
+    (λ f. rw f (back t (suc k) (all .0) (omega arith)))
+    (λ f. rw f (back-cases Q P ts (suc k) w p c (all .1) (λ u j h l. back u j h (omega arith)) (rw e at front)))
+
+pub stepped-cases : (Q : Step → Type 0) (P : ℕ → Type 0) (w : List ℕ) (p c : ℕ) → Every P (back-targets w p) →
+    ((t j : ℕ) → P t → j ≤ arrows w p → Q (step t j (Back t))) → Q (try-forward (arrows w p) w p c) → Q (stepped w p c)
+unfolding stepped arrows
+stepped-cases Q P w p c all back front =
+    let e : length (back-targets w p) ≡ 0 + length (back-targets w p) = omega arith in
+    back-cases Q P (back-targets w p) 0 w p c all (λ t j h l. back t j h (omega arith)) (rw e at front)
+
+-- a step leads at most one state on, and to no state past the end
+pub step-bounds : (w : List ℕ) (p c : ℕ) → p ≤ length w → (stepped w p c .state ≤ length w) × (stepped w p c .state ≤ suc p)
+step-bounds w p c fits =
+    let Q : Step → Type 0 = λ s. (s .state ≤ length w) × (s .state ≤ suc p) in
+    stepped-cases Q (λ t. (1 ≤ t) × (t ≤ p)) w p c (target-range w p)
+    (λ t j h l. let le : t ≤ p = h .1 in (omega arith, omega arith))
+    (forward-cases (arrows w p) w p c Q (λ l e. (omega arith, omega arith)) (λ l. (omega arith, omega arith)) (λ l. (omega arith, omega arith)))

@@ -1,0 +1,4 @@
+pub mod Arrows
+pub mod Preparing
+pub mod Ceilings
+pub mod Promise

@@ -1,0 +1,233 @@
+-- Filling one state: the target of its longest border and that border's own targets, less the one with the forward label. Assumes nothing.
+use mathlib.Core.Path.{_≡_, refl, sym, ap, _∙_}
+use mathlib.Core.Bool.{true, false}
+use mathlib.Core.Logic.{_≢_}
+use mathlib.Core.List.{List, [], _∷_, _++_, append-nil}
+use Prim.Native.Nat.{ℕ, zero, suc, _+_, _*_, _-_, _≤_, _<_}
+use native.Mathlib.Numerals.{add-one}
+use native.Mathlib.Nat.{le-refl}
+use native.Mathlib.Omega.{arith}
+use lib.Dec.{ltb}
+use lib.ListN.{length, getD, drop, set, length-append, List·getD-append, drop-of-length-le}
+use lib.Seq.{drop-cons, append-snoc, getD-append-add}
+use borrow.Author.Tests.{eq-eqb, ne-eqb, lt-ltb, ltb-true}
+use Rattle.words.specs.Words.{byte, member, Every}
+use Rattle.words.proofs.Tests.{by-test}
+use Rattle.words.proofs.Lists.{length-snoc, every-at}
+use Rattle.words.proofs.Borders.{longest-is}
+use Rattle.automaton.specs.Arrows.{label, forward, back-targets, targets-below}
+use Rattle.automaton.specs.Preparing.{candidates, drops, kept, dropped}
+use Rattle.automaton.proofs.Preparing.{kept-are}
+use Rattle.automaton.proofs.FewArrows.{candidates-fit}
+use Rattle.automaton.proofs.Targets.{target-range}
+use Rattle.codes.specs.declared.Filled.{Filled}
+use Rattle.codes.specs.Sheet.{counts-below, sheet-room}
+use Rattle.codes.specs.Inside.{start-of, Filling, header, put-result, put-buffer, State-ready, State-made}
+use Rattle.codes.proofs.Layouts.{length-counts, count-at, length-next, length-rises, target-at}
+use Rattle.codes.proofs.Sheets.{start-is}
+use Rattle.codes.proofs.Fillings.{front-at, mid-at, put-mid}
+
+-- ONE TARGET: whether it has the forward label, and what is done with it
+module _ (w : List ℕ) (r t : ℕ) where
+  pub drops-yes : r < length w → getD w r 0 ≡ getD w (t - 1) 0 → drops w r t ≡ true
+  unfolding drops forward member label byte
+  drops-yes h e = simp (lt-ltb r (length w) h, eq-eqb (getD w r 0) (getD w (t - 1) 0) e)
+
+  pub drops-not : (r < length w → getD w r 0 ≢ getD w (t - 1) 0) → drops w r t ≡ false
+  unfolding drops forward member label byte
+  drops-not f =
+      by-test (ltb r (length w))
+      (λ e. rw (e, ne-eqb (getD w r 0) (getD w (t - 1) 0) (f (ltb-true r (length w) e))))
+      (λ e. rw e)
+
+  module _ (f : Filled) (b : List ℕ) where
+    pub put-dropped : drops w r t ≡ true →
+        (_≡_ {A = Filled} (record { stored = f .stored; border = t }) (put-result w r t f)) × (b ≡ put-buffer w r t f b)
+    unfolding put-result put-buffer
+    put-dropped e = rw e (refl, refl)
+
+    pub put-stored : drops w r t ≡ false →
+        (_≡_ {A = Filled} (record { stored = f .stored + 1; border = f .border }) (put-result w r t f))
+        × (set b (2 * length w + 2 + f .stored) t ≡ put-buffer w r t f b)
+    unfolding put-result put-buffer
+    put-stored e = rw e (refl, refl)
+
+-- SOME TARGETS of state r are put and others left: those that the buffer has, and of those left the ones that stay, are all of the states up to r
+pub record Put (w : List ℕ) (r : ℕ) (a b : List ℕ) (f : Filled) (left : List ℕ) : Type 0 where
+  pub have : List ℕ
+  pub filling : Filling (2 * length w + 2) (header w r) have a b
+  pub stored-is : f .stored ≡ length have
+  pub all : have ++ kept w r left ≡ targets-below w (suc r)
+  pub border-is : dropped w r (f .border) left ≡ dropped w r 0 (candidates w r)
+  pub since : length (targets-below w r) ≤ length have
+  pub fits : length have + length left ≤ r
+
+module _ {w a b : List ℕ} {r t : ℕ} {f : Filled} {left : List ℕ} (u : Put w r a b f (t ∷ left))
+    (front : length (header w r) ≤ 2 * length w + 2) (room : 2 * length w + 2 + r ≤ length b) where
+  pub put-room : 2 * length w + 2 + f .stored < length b
+  put-room = omega (arith, u .fits, u .stored-is)
+
+  next-dropped : drops w r t ≡ true → Put w r a b (record { stored = f .stored; border = t }) left
+  unfolding kept dropped
+  next-dropped e =
+      record {
+        have = u .have;
+        filling = u .filling;
+        stored-is = u .stored-is;
+        all = rw e at (u .all);
+        border-is = rw e at (u .border-is);
+        since = u .since;
+        fits = omega (arith, u .fits);
+      }
+
+  next-stored : drops w r t ≡ false →
+      Put w r a (set b (2 * length w + 2 + f .stored) t) (record { stored = f .stored + 1; border = f .border }) left
+  unfolding kept dropped
+  next-stored e =
+      record {
+        have = u .have ++ (t ∷ []);
+        filling = rw (u .stored-is) (put-mid (u .filling) t front (omega (arith, put-room, u .stored-is)));
+        stored-is = omega (arith, u .stored-is, length-snoc (u .have) t);
+        all = append-snoc (u .have) t (kept w r left) ∙ rw e at (u .all);
+        border-is = rw e at (u .border-is);
+        since = omega (arith, u .since, length-snoc (u .have) t);
+        fits = omega (arith, u .fits, length-snoc (u .have) t);
+      }
+
+  pub put-next : Put w r a (put-buffer w r t f b) (put-result w r t f) left
+  unfolding put-buffer put-result
+  put-next =
+      by-test (drops w r t) (λ e. rw e (next-dropped e)) (λ e. rw e (next-stored e))
+
+-- THE HEADER has the counts of the states below
+pub length-header : (w : List ℕ) (r : ℕ) → length (header w r) ≡ length w + 1 + r
+unfolding header
+length-header w r = omega (arith, length-append (length w ∷ w) (counts-below w r), length-counts w r)
+
+pub header-count : (w : List ℕ) (r p : ℕ) → p < r → getD (header w r) (length w + 1 + p) 0 ≡ length (targets-below w (suc p))
+unfolding header
+header-count w r p l =
+    let at : length w + 1 + p ≡ length (length w ∷ w) + p = omega arith in
+    ap (λ (n : ℕ). getD ((length w ∷ w) ++ counts-below w r) n 0) at
+    ∙ getD-append-add (length w ∷ w) (counts-below w r) p 0
+    ∙ count-at w r p l
+
+-- the loop over the targets of the longest border β, of which j are put
+pub record Copying (w a : List ℕ) (r β end : ℕ) (b : List ℕ) (f : Filled) (i : ℕ) : Type 0 where
+  pub j : ℕ
+  pub within : j ≤ length (back-targets w β)
+  pub i-is : i ≡ 2 * length w + 2 + length (targets-below w β) + j
+  pub end-is : end ≡ 2 * length w + 2 + length (targets-below w β) + length (back-targets w β)
+  pub put : Put w r a b f (drop j (back-targets w β))
+
+-- A STATE that is ready
+module _ {w a : List ℕ} {r β k : ℕ} (s : State-ready w a r β k) where
+  pub border-below : β < r
+  border-below = omega (arith, s .some, s .border-is, longest-is w r (s .some) .bound)
+
+  front-fits : length (header w r) ≤ 2 * length w + 2
+  front-fits = omega (arith, length-header w r, s .ok)
+
+  back-fits : 2 * length w + 2 + r ≤ length a
+  unfolding sheet-room
+  back-fits = omega (arith, s .fits .room, s .ok)
+
+  -- where the targets of β are
+  count-in : (p : ℕ) → p < r → getD a (length w + 1 + p) 0 ≡ length (targets-below w (suc p))
+  count-in p l = front-at (s .filling) (length w + 1 + p) (omega (arith, length-header w r)) ∙ header-count w r p l
+
+  pub end-in : getD a (length w + 1 + β) 0 ≡ length (targets-below w (suc β))
+  end-in = count-in β border-below
+
+  pub start-in : start-of a (length w) β ≡ length (targets-below w β)
+  start-in = start-is a w β (λ q l. count-in q (omega (arith, border-below)))
+
+  -- the first target
+  candidates-are : candidates w r ≡ (β + 1) ∷ back-targets w β
+  unfolding candidates
+  candidates-are = rw (← s .border-is, add-one β)
+
+  first : Put w r a a (record { stored = k; border = 0 }) ((β + 1) ∷ back-targets w β)
+  unfolding targets-below
+  first =
+      rw (← candidates-are)
+      (record {
+        have = targets-below w r;
+        filling = s .filling;
+        stored-is = s .stored-is;
+        all = ap (λ (ts : List ℕ). targets-below w r ++ ts) (sym (kept-are w r (s .some) (s .ok)));
+        border-is = refl;
+        since = le-refl (length (targets-below w r));
+        fits = candidates-fit w r (s .some) (s .ok);
+      })
+
+  pub first-room : 2 * length w + 2 + k < length a
+  first-room = put-room first front-fits back-fits
+
+  pub first-put : {d : List ℕ} {f : Filled} → f ≡ put-result w r (β + 1) (record { stored = k; border = 0 }) →
+      d ≡ put-buffer w r (β + 1) (record { stored = k; border = 0 }) a → Put w r a d f (back-targets w β)
+  first-put e g = rw (e, g) (put-next first front-fits back-fits)
+
+  pub copy-start : {d : List ℕ} {f : Filled} (end start : ℕ) → end ≡ length (targets-below w (suc β)) → start ≡ length (targets-below w β) →
+      Put w r a d f (back-targets w β) → Copying w a r β (2 * length w + 2 + end) d f (2 * length w + 2 + start)
+  copy-start end start e g u =
+      record { j = 0; within = omega arith; i-is = omega arith; end-is = omega (arith, length-next w β); put = u }
+
+  -- a turn: the target at i is the next
+  module _ {d : List ℕ} {f : Filled} {end i : ℕ} (x : Copying w a r β end d f i) where
+    pub same-size : length d ≡ length a
+    same-size = x .put .filling .long
+
+    module _ (l : i < end) where
+      more : x .j < length (back-targets w β)
+      more = omega (arith, x .end-is, x .i-is)
+
+      place : length (targets-below w β) + x .j < length (x .put .have)
+      place = omega (arith, more, x .put .since, length-next w β, length-rises w (suc β) r border-below)
+
+      next-is : getD d i 0 ≡ getD (back-targets w β) (x .j) 0
+      next-is =
+          let n : ℕ = length (targets-below w β) + x .j in
+          let at : i ≡ 2 * length w + 2 + n = omega (arith, x .i-is) in
+          ap (λ (z : ℕ). getD d z 0) at
+          ∙ mid-at (x .put .filling) n place
+          ∙ sym (List·getD-append (x .put .have) (kept w r (drop (x .j) (back-targets w β))) 0 n place)
+          ∙ ap (λ (ts : List ℕ). getD ts n 0) (x .put .all)
+          ∙ target-at w (suc r) β (x .j) (omega (arith, border-below)) more
+
+      pub next-ok : (1 ≤ getD d i 0) × (getD d i 0 ≤ length w)
+      next-ok =
+          let u = every-at (λ t. (1 ≤ t) × (t ≤ β)) (back-targets w β) (x .j) (target-range w β) more in
+          omega (arith, u, next-is, s .ok, border-below)
+
+      left-is : drop (x .j) (back-targets w β) ≡ getD d i 0 ∷ drop (x .j + 1) (back-targets w β)
+      left-is = rw (next-is, add-one (x .j)) (drop-cons (back-targets w β) (x .j) 0 more)
+
+      next : Put w r a d f (getD d i 0 ∷ drop (x .j + 1) (back-targets w β))
+      next = rw left-is at (x .put)
+
+      pub next-room : 2 * length w + 2 + f .stored < length d
+      next-room = put-room next front-fits (rw same-size back-fits)
+
+      pub read-room : i < length d
+      read-room = omega (arith, x .i-is, place, next-room, x .put .stored-is)
+
+      pub copy-on : (t : ℕ) → t ≡ getD d i 0 → (f′ : Filled) (d′ : List ℕ) → f′ ≡ put-result w r t f → d′ ≡ put-buffer w r t f d →
+          Copying w a r β end d′ f′ (i + 1)
+      copy-on t e f′ d′ u v =
+          record {
+            j = x .j + 1;
+            within = omega (arith, more);
+            i-is = omega (arith, x .i-is);
+            end-is = x .end-is;
+            put = rw (u, v, e) (put-next next front-fits (rw same-size back-fits));
+          }
+
+    pub copy-done : end ≤ i → State-made w r f a d
+    unfolding kept dropped
+    copy-done h =
+        let past : length (back-targets w β) ≤ x .j = omega (arith, x .end-is, x .i-is) in
+        let none : drop (x .j) (back-targets w β) ≡ [] = drop-of-length-le (back-targets w β) past in
+        let u : Put w r a d f [] = rw none at (x .put) in
+        let all : u .have ≡ targets-below w (suc r) = sym (append-nil (u .have)) ∙ u .all in
+        record { filling = rw all at (u .filling); stored-is = u .stored-is ∙ ap length all; border-is = u .border-is }

@@ -1,0 +1,49 @@
+-- `total_ceiling` meets its contract. Assumes nothing.
+use mathlib.Core.Path.{_≡_, sym, _∙_}
+use Prim.Native.Nat.{_*_, _-_, _≤_}
+use native.Mathlib.Omega.{arith}
+use native.Mathlib.Nat.{mul-le-mul-right}
+use Rattle.automaton.specs.Ceilings.{total-ceiling}
+use Rattle.codes.specs.Codes.{length-refusal}
+use Rattle.codes.specs.Entry.{total-answer}
+use Rattle.codes.proofs.Refusals.{answered-value, answered-refusal, length-bounds}
+use borrow.Author.Needs.{needs}
+use Rattle.codes.proofs.total_ceiling.Statement.{statement}
+use Rattle.codes.proofs.total_ceiling.Tie as tie
+
+-- past the refusals the length is a code's
+none : (c : tie.Else1) → length-refusal (c .before .before .args .m) ≡ 0
+none c = sym (c .before .length-refusal .ensures) ∙ c .if1 .left
+
+length-refusal-requires : tie.Need-length-refusal-requires
+length-refusal-requires c κs = search needs
+
+returns : tie.Need-returns
+unfolding total-answer
+returns c =
+    cc (answered-refusal (c .before .length-refusal .result) (total-ceiling (c .before .before .args .m) (c .before .before .args .n)) (c .if1 .taken))
+
+mul-t7 : tie.Need-mul-t7
+mul-t7 c = search needs
+
+sub-t8 : tie.Need-sub-t8
+sub-t8 c = omega (arith, length-bounds _ (none c))
+
+mul-t10 : tie.Need-mul-t10
+mul-t10 c =
+    let bounds = length-bounds _ (none c) in
+    let m = c .before .before .args .m in
+    let n = c .before .before .args .n in
+    let bound : (2 * m - 1) * n ≤ 509 * n = mul-le-mul-right n (omega arith) in
+    omega arith
+
+div-t11 : tie.Need-div-t11
+div-t11 c = omega (arith, length-bounds _ (none c))
+
+returns-2 : tie.Need-returns-2
+unfolding total-answer total-ceiling
+returns-2 c = sym (answered-value _ _ (none c))
+
+pub total-ceiling-spec : {M : Type 1} → statement M
+total-ceiling-spec =
+    tie.close (tie.spec length-refusal-requires returns mul-t7 sub-t8 mul-t10 div-t11 returns-2)

@@ -1,0 +1,61 @@
+-- What the private functions of this crate need and promise. Assumes nothing: these are definitions.
+use mathlib.Core.Path.{_≡_}
+use mathlib.Core.Bool.{cond}
+use mathlib.Core.List.{List, _∷_, _++_}
+use Prim.Native.Nat.{ℕ, suc, _+_, _*_, _≤_}
+use lib.Dec.{eqb}
+use lib.ListN.{length, getD, set, take, drop}
+use Rattle.words.specs.Words.{border-of}
+use Rattle.automaton.specs.Arrows.{targets-below}
+use Rattle.automaton.specs.Preparing.{candidates, drops, dropped}
+use Rattle.codes.specs.declared.Filled.{Filled}
+use Rattle.codes.specs.Codes.{longest-code}
+use Rattle.codes.specs.Sheet.{counts-below, sheet-room}
+
+-- where the stored targets of state p start, counted from the first target, in a buffer with a code of m bytes
+unfoldable pub start-of : (buffer : List ℕ) → (m p : ℕ) → ℕ
+start-of bs m p = cond (eqb p 0) 0 (getD bs (m + p) 0)
+
+-- a code and a buffer with room for its sheet
+pub record Fits-in (w b : List ℕ) : Type 0 where
+  pub some : 1 ≤ length w
+  pub few : length w ≤ longest-code
+  pub room : sheet-room (length w) ≤ length b
+
+-- a buffer b that was a: it has cs in front and ts from place n on; behind ts it is as it was
+pub record Filling (n : ℕ) (cs ts a b : List ℕ) : Type 0 where
+  pub front : take (length cs) b ≡ cs
+  pub mid : take (length ts) (drop n b) ≡ ts
+  pub tail : drop (n + length ts) b ≡ drop (n + length ts) a
+  pub long : length b ≡ length a
+
+-- the length, the code and the counts of the states below r
+unfoldable pub header : (w : List ℕ) → (r : ℕ) → List ℕ
+header w r = (length w ∷ w) ++ counts-below w r
+
+-- the sheet as far as the states below r
+abbrev pub Filled-to : (w : List ℕ) → (r : ℕ) → (a b : List ℕ) → Type 0
+Filled-to w r a b = Filling (2 * length w + 2) (header w r) (targets-below w r) a b
+
+-- one target put: stored, or kept back as the next state's longest border where it has r's forward label
+unfoldable pub put-result : (w : List ℕ) → (r t : ℕ) → Filled → Filled
+put-result w r t f =
+    cond (drops w r t) (record { stored = f .stored; border = t }) (record { stored = f .stored + 1; border = f .border })
+
+unfoldable pub put-buffer : (w : List ℕ) → (r t : ℕ) → Filled → (buffer : List ℕ) → List ℕ
+put-buffer w r t f b = cond (drops w r t) b (set b (2 * length w + 2 + f .stored) t)
+
+-- state r can be filled: its longest border is known and the states below are there
+pub record State-ready (w b : List ℕ) (r border stored : ℕ) : Type 0 where
+  pub fits : Fits-in w b
+  pub some : 1 ≤ r
+  pub ok : r ≤ length w
+  pub border-is : border ≡ border-of w r
+  pub stored-is : stored ≡ length (targets-below w r)
+  pub filling : Filled-to w r b b
+
+-- its targets are there
+pub record State-made (w : List ℕ) (r : ℕ) (f : Filled) (a b : List ℕ) : Type 0 where
+  pub filling : Filling (2 * length w + 2) (header w r) (targets-below w (suc r)) a b
+  pub stored-is : f .stored ≡ length (targets-below w (suc r))
+  pub border-is : f .border ≡ dropped w r 0 (candidates w r)

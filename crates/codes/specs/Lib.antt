@@ -1,0 +1,6 @@
+pub mod Refusals
+pub mod Codes
+pub mod Sheet
+pub mod Entry
+pub mod Promise
+pub mod Inside

@@ -1,0 +1,30 @@
+-- What is promised of sheets. Each statement is a type; docs/PROOFS.md names its proof. Assumes nothing.
+use mathlib.Core.Path.{_≡_}
+use mathlib.Core.Bool.{true}
+use mathlib.Core.List.{List, _++_}
+use mathlib.Core.Logic.{_↔_}
+use Prim.Native.Nat.{ℕ, _+_, _*_, _≤_}
+use lib.ListN.{length}
+use Rattle.automaton.specs.Arrows.{back-arrows}
+use Rattle.codes.specs.Codes.{accepted}
+use Rattle.codes.specs.Sheet.{sheet, sheet-room, begins}
+
+-- a sheet has 2m + 2 bytes and one for each backward arrow, which always fits its room
+unfoldable pub Sheet-sized : Type 0
+Sheet-sized =
+    (w : List ℕ) → (length (sheet w) ≡ 2 * length w + 2 + back-arrows w) × (length (sheet w) ≤ sheet-room (length w))
+
+-- a sheet tells its code: two codes have one sheet only if they are equal
+unfoldable pub Sheet-tells : Type 0
+Sheet-tells = (w v xs ys : List ℕ) → sheet w ++ xs ≡ sheet v ++ ys → w ≡ v
+
+-- a buffer that begins with the sheet of an accepted code, whatever stands behind it
+pub record Sheet-of (bs : List ℕ) : Type 0 where
+  pub code : List ℕ
+  pub rest : List ℕ
+  pub good : accepted code ≡ true
+  pub is : bs ≡ sheet code ++ rest
+
+-- such a buffer is accepted, and no other
+unfoldable pub Begins-right : Type 0
+Begins-right = (bs : List ℕ) → (begins bs ≡ true) ↔ Sheet-of bs

@@ -1,0 +1,9 @@
+pub mod Reading
+pub mod Turns
+pub mod Taking
+pub mod Fitness
+pub mod Refusing
+pub mod Runs
+pub mod Places
+pub mod Promises
+pub mod Entries

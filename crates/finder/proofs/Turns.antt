@@ -1,0 +1,224 @@
+-- What one byte and a run of bytes in state 0 do to a watch and to what is fed after them. Assumes nothing.
+use mathlib.Core.Path.{_≡_, refl, sym, ap, _∙_}
+use mathlib.Core.Bool.{Bool, true, false, cond}
+use mathlib.Core.Logic.{_≢_}
+use mathlib.Core.List.{List, [], _∷_, _++_, append-nil}
+use Prim.Native.Nat.{ℕ, zero, suc, _+_, _*_, _-_, _^_, _≤_, _<_, min}
+use native.Mathlib.Nat.{min-le-left, add-zero, sub-zero}
+use native.Mathlib.Numerals.{add-one}
+use native.Mathlib.Omega.{arith}
+use borrow.Author.Tests.{eq-eqb, ne-eqb, lt-ltb}
+use lib.Dec.{eqb}
+use lib.ListN.{length, getD, drop, drop-of-length-le}
+use lib.Seq.{drop-cons}
+use Rattle.words.specs.Words.{byte}
+use Rattle.words.proofs.Tests.{by-eq}
+use Rattle.automaton.specs.declared.Step.{Step}
+use Rattle.automaton.specs.declared.Arrow.the-variants.{Forward, Nothing}
+use Rattle.automaton.specs.Arrows.{back-targets, step, try-forward, try-back, stepped}
+use Rattle.automaton.specs.Ceilings.{log2, different, byte-ceiling}
+use Rattle.automaton.specs.Promise.{Byte-below}
+use Rattle.automaton.proofs.Targets.{back-zero}
+use Rattle.automaton.proofs.Steps.{step-bounds}
+use Rattle.automaton.proofs.Logarithm.{log2-bound}
+use Rattle.automaton.proofs.ByteCeiling.{byte-below}
+use Rattle.codes.specs.Codes.{longest-code}
+use Rattle.finder.specs.declared.Watch.{Watch}
+use Rattle.finder.specs.declared.Turn.{Turn}
+use Rattle.finder.specs.Feed.{longest-text, place-if, reported, with-byte, Fed, fed, fed-more, feed}
+use Rattle.finder.specs.Inside.{Ready, completed, with-step, missed, Skipped, Turned}
+
+-- PLACES: none or one
+pub place-one : (t : Bool) (i : ℕ) → length (place-if t i) ≤ 1
+unfolding place-if
+place-one true i = omega arith
+place-one false i = omega arith
+
+module _ (m : ℕ) (x : Watch) where
+  pub completed-one : x .state ≡ m → completed m x ≡ (x .taken - m) ∷ []
+  unfolding completed place-if
+  completed-one e = rw (eq-eqb (x .state) m e)
+
+  pub completed-none : x .state ≢ m → completed m x ≡ []
+  unfolding completed place-if
+  completed-none n = rw (ne-eqb (x .state) m n)
+
+-- ONE BYTE is one step
+pub step-byte : (w : List ℕ) (c : ℕ) (x : Watch) → with-step (length w) (stepped w (x .state) c) x ≡ with-byte w c x
+unfolding with-step with-byte reported
+step-byte w c x = refl
+
+reported-completed : (w : List ℕ) (c : ℕ) (x : Watch) → reported w c x ≡ completed (length w) (with-byte w c x)
+unfolding reported completed with-byte
+reported-completed w c x = refl
+
+-- a byte costs at most 256 comparisons
+pub step-cheap : (w : List ℕ) (p c : ℕ) → p ≤ length w → length w ≤ longest-code → stepped w p c .cost ≤ 256
+unfolding Byte-below byte-ceiling
+step-cheap w p c fits few =
+    omega (arith, byte-below w p c fits, min-le-left (1 + log2 (length w)) (different w), log2-bound (length w))
+
+pub ready-byte : (w : List ℕ) (c : ℕ) (x : Watch) (n : ℕ) → length w ≤ longest-code → Ready (length w) x (suc n) → Ready (length w) (with-byte w c x) n
+unfolding with-byte reported
+ready-byte w c x n few r =
+    let b = step-bounds w (x .state) c (r .state) in
+    let k = place-one (eqb (stepped w (x .state) c .state) (length w)) (suc (x .taken) - length w) in
+    record {
+      state = b .0;
+      read = omega (arith, b .1, r .read);
+      hits = omega (arith, k, r .hits);
+      text = omega (arith, r .text);
+      cheap = omega (arith, r .cheap, step-cheap w (x .state) c (r .state) few);
+    }
+
+-- BYTES OF A PIECE from place i on
+module _ (w piece : List ℕ) (i : ℕ) (h : i < length piece) where
+  feed-byte : (k : ℕ) (x y : Watch) → y ≡ with-byte w (getD piece i 0) x →
+      feed w (drop i piece) (suc k) x ≡ fed-more 1 (completed (length w) y) (feed w (drop (i + 1) piece) (suc k - length (completed (length w) y)) y)
+  unfolding feed
+  feed-byte k x y e = rw (e, ← reported-completed w (getD piece i 0) x, add-one i, drop-cons piece i 0 h)
+
+  pub turned-byte : (x y : Watch) → length w ≤ longest-code → y ≡ with-byte w (getD piece i 0) x → Ready (length w) x (length piece - i) →
+      Turned w piece x i (record { watch = y; at = i + 1 })
+  unfolding with-byte
+  turned-byte x y few e r =
+      let one : i + 1 - i ≡ 1 = omega arith in
+      let left : length piece - i ≡ suc (length piece - (i + 1)) = omega arith in
+      record {
+        later = omega arith;
+        within = omega arith;
+        bytes = rw (one, e) (sym (add-one (x .taken)));
+        ready = rw e (ready-byte w (getD piece i 0) x (length piece - (i + 1)) few (rw left at r));
+        feeds = λ k. rw one (feed-byte k x y e);
+      }
+
+-- STATE 0: one comparison with the code's first byte
+module _ (w : List ℕ) (c : ℕ) (some : 1 ≤ length w) where
+  pub start-on : byte w 0 ≡ c → stepped w 0 c ≡ step 1 1 Forward
+  unfolding stepped try-back try-forward
+  start-on e = rw (back-zero w, lt-ltb 0 (length w) some, eq-eqb (byte w 0) c e)
+
+  start-off : byte w 0 ≢ c → stepped w 0 c ≡ step 0 1 Nothing
+  unfolding stepped try-back try-forward
+  start-off n = rw (back-zero w, lt-ltb 0 (length w) some, ne-eqb (byte w 0) c n)
+
+  byte-missed : (x : Watch) → x .state ≡ 0 → byte w 0 ≢ c → with-byte w c x ≡ missed 1 x
+  unfolding with-byte reported place-if
+  byte-missed x e n =
+      let none : 0 ≢ length w = λ z. omega arith in
+      let at : x .taken + 1 ≡ suc (x .taken) = add-one (x .taken) in
+      let same : x .hits + 0 ≡ x .hits = omega arith in
+      rw (e, start-off n) (rw (ne-eqb 0 (length w) none) (rw (at, same) refl))
+
+missed-more : (x : Watch) (n : ℕ) → missed n (missed 1 x) ≡ missed (suc n) x
+missed-more x n =
+    let a : x .taken + 1 + n ≡ x .taken + suc n = omega arith in
+    let b : x .compares + 1 + n ≡ x .compares + suc n = omega arith in
+    rw (a, b) refl
+
+-- nothing before what was fed
+more-none : (f : Fed) → fed-more 0 [] f ≡ f
+unfolding fed-more
+more-none f = let e : 0 + f .taken ≡ f .taken = omega arith in rw e refl
+
+more-more : (a b : ℕ) (ps : List ℕ) (f : Fed) → fed-more a [] (fed-more b ps f) ≡ fed-more (a + b) ps f
+unfolding fed-more
+more-more a b ps f = let e : a + (b + f .taken) ≡ a + b + f .taken = omega arith in rw e refl
+
+missed-none : (x : Watch) → x .state ≡ 0 → x ≡ missed 0 x
+missed-none x e =
+    λ i. record { state = e i; taken = sym (add-zero (x .taken)) i; hits = x .hits; compares = sym (add-zero (x .compares)) i }
+
+-- n bytes in state 0, none of them the code's first
+feed-missed : (w piece : List ℕ) (n i k : ℕ) (x : Watch) → 1 ≤ length w → x .state ≡ 0 → i + n ≤ length piece →
+    ((j : ℕ) → i ≤ j → j < i + n → getD piece j 0 ≢ byte w 0) →
+    feed w (drop i piece) (suc k) x ≡ fed-more n [] (feed w (drop (i + n) piece) (suc k) (missed n x))
+feed-missed w piece zero i k x some e h f =
+    rw (more-none, add-zero i) (ap (feed w (drop i piece) (suc k)) (missed-none x e))
+feed-missed w piece (suc n) i k x some e h f =
+    let miss : missed 1 x ≡ with-byte w (getD piece i 0) x =
+    sym (byte-missed w (getD piece i 0) some x e (λ z. f i (omega arith) (omega arith) (sym z))) in
+    let none : completed (length w) (missed 1 x) ≡ [] = completed-none (length w) (missed 1 x) (λ z. omega arith) in
+    let at : i + suc n ≡ i + 1 + n = omega arith in
+    let one : 1 + n ≡ suc n = omega arith in
+    feed-byte w piece i (omega arith) k x (missed 1 x) miss
+    ∙ rw (none, sub-zero (suc k))
+    (ap (fed-more 1 [])
+    (feed-missed w piece n (i + 1) k (missed 1 x) some refl (omega arith) (λ j lo hi. f j (omega arith) (omega arith)))
+    ∙ more-more 1 n [] (feed w (drop (i + 1 + n) piece) (suc k) (missed n (missed 1 x)))
+    ∙ rw (one, at, missed-more x n) refl)
+
+-- A TURN from state 0: the bytes up to the code's first, and that one if it comes
+module _ (w piece : List ℕ) (x : Watch) (i j : ℕ) (some : 1 ≤ length w) (few : length w ≤ longest-code) (e : x .state ≡ 0) (inside : i < length piece)
+    (r : Ready (length w) x (length piece - i)) (s : Skipped piece i (byte w 0) j) where
+  abbrev n : ℕ
+  n = j - i
+
+  abbrev y : Watch
+  y = missed n x
+
+  bounds : (i ≤ j) × (j ≤ length piece)
+  bounds = (s .on, s .within)
+
+  ready-missed : Ready (length w) y (length piece - j)
+  ready-missed =
+      let b = bounds in
+      record {
+        state = omega arith;
+        read = omega arith;
+        hits = omega (arith, r .hits);
+        text = omega (arith, r .text);
+        cheap = omega (arith, r .cheap);
+      }
+
+  passed : (k : ℕ) → feed w (drop i piece) (suc k) x ≡ fed-more n [] (feed w (drop j piece) (suc k) y)
+  passed k =
+      let b = bounds in
+      let at : i + n ≡ j = omega arith in
+      rw at at (feed-missed w piece n i k x some e (omega arith) (λ a lo hi. s .others a lo (omega arith)))
+
+  pub turned-missed : length piece ≤ j → Turned w piece x i (record { watch = missed (j - i) x; at = j })
+  turned-missed end =
+      let b = bounds in
+      let none : completed (length w) y ≡ [] = completed-none (length w) y (λ z. omega arith) in
+      record { later = omega arith; within = omega arith; bytes = refl; ready = ready-missed; feeds = λ k. rw (none, sub-zero (suc k)) (passed k) }
+
+  module _ (found : j < length piece) (z : Watch) (z-is : z ≡ with-step (length w) (step 1 1 Forward) y) where
+    z-byte : z ≡ with-byte w (getD piece j 0) y
+    z-byte = z-is ∙ ap (λ (q : Step). with-step (length w) q y) (sym (start-on w (getD piece j 0) some (sym (s .found found)))) ∙ step-byte w (getD piece j 0) y
+
+    pub turned-start : Turned w piece x i (record { watch = z; at = j + 1 })
+    turned-start =
+        let b = bounds in
+        let t = turned-byte w piece j found y z few z-byte ready-missed in
+        let one : j + 1 - j ≡ 1 = omega arith in
+        let all : n + 1 ≡ j + 1 - i = omega arith in
+        let last : List ℕ = completed (length w) z in
+        record {
+          later = omega arith;
+          within = omega arith;
+          bytes = omega (arith, t .bytes);
+          ready = t .ready;
+          feeds = λ k.
+              passed k ∙ ap (fed-more n []) (rw one at (t .feeds k))
+              ∙ more-more n 1 last (feed w (drop (j + 1) piece) (suc k - length last) z)
+              ∙ ap (λ (a : ℕ). fed-more a last (feed w (drop (j + 1) piece) (suc k - length last) z)) all;
+        }
+
+-- THE WATCH AFTER A STEP, by whether the code is complete
+module _ (m : ℕ) (s : Step) (x : Watch) (h : ℕ) where
+  pub stepped-hit : s .state ≡ m → h ≡ x .hits + 1 →
+      _≡_ {A = Watch} (record { state = s .state; taken = x .taken + 1; hits = h; compares = x .compares + s .cost }) (with-step m s x)
+  unfolding with-step place-if
+  stepped-hit e q = simp (eq-eqb (s .state) m e, add-one, q)
+
+  pub stepped-miss : s .state ≢ m → h ≡ x .hits →
+      _≡_ {A = Watch} (record { state = s .state; taken = x .taken + 1; hits = h; compares = x .compares + s .cost }) (with-step m s x)
+  unfolding with-step place-if
+  stepped-miss n q = simp (ne-eqb (s .state) m n, add-one, add-zero, q)
+
+-- THE SEARCH for the code's first byte: none of the bytes passed is it
+pub skipped-more : (piece : List ℕ) (from byte i : ℕ) → ((j : ℕ) → from ≤ j → j < i → getD piece j 0 ≢ byte) → getD piece i 0 ≢ byte →
+    (j : ℕ) → from ≤ j → j < i + 1 → getD piece j 0 ≢ byte
+skipped-more piece from byte i f n j lo hi =
+    by-eq j i (λ (e : j ≡ i). rw e n) (λ (e : j ≢ i). f j lo (omega arith))

@@ -1,0 +1,53 @@
+use Rattle.finder.proofs.Turns.{skipped-more}
+use Prim.Native.Nat.{ℕ, _-_, _≤_, _<_}
+use mathlib.Core.Logic.{_≢_}
+use native.Mathlib.Omega.{arith}
+use lib.ListN.{length, getD}
+use borrow.Author.Needs.{needs}
+use Rattle.finder.proofs.skip.Statement.{statement}
+use Rattle.finder.proofs.skip.Tie as tie
+use Rattle.finder.proofs.skip.Reads as reads
+use Rattle.finder.proofs.skip.Lts as lts
+
+abbrev Inv-loop : tie.InvT-loop
+Inv-loop piece from byte i₀ i = (from ≤ i) × (i ≤ length piece) × ((j : ℕ) → from ≤ j → j < i → getD piece j 0 ≢ byte)
+
+abbrev μ-loop : tie.MeasureT-loop
+μ-loop piece from byte i₀ i = length piece - i
+
+loop-holds : tie.Need-loop-holds Inv-loop μ-loop
+loop-holds c = search needs
+
+shared-slice-read-if1 : tie.Need-shared-slice-read-if1 Inv-loop μ-loop
+shared-slice-read-if1 c = search needs
+
+returns : tie.Need-returns Inv-loop μ-loop
+returns c = search needs
+
+add-i : tie.Need-add-i Inv-loop μ-loop
+add-i c = search needs
+
+loop-less : tie.Need-loop-less Inv-loop μ-loop
+loop-less c = search needs
+
+loop-again : tie.Need-loop-again Inv-loop μ-loop
+loop-again c =
+    let v = c .before .before .before .loop .inv in
+    (omega arith, omega arith, skipped-more (c .before .before .before .before .args .piece .now) (c .before .before .before .before .args .from) (c .before .before .before .before .args .byte) (c .before .before .before .loop .i) (v .2) (c .if1 .left))
+
+returns-2 : tie.Need-returns-2 Inv-loop μ-loop
+returns-2 c = search needs
+
+pub skip-spec : {M : Type 1} → statement M
+skip-spec =
+    tie.close
+    (tie.spec
+    Inv-loop
+    μ-loop
+    loop-holds
+    shared-slice-read-if1
+    returns
+    add-i
+    loop-less
+    loop-again
+    returns-2)

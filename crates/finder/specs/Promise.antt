@@ -1,0 +1,77 @@
+-- What is promised of sheets, of runs of feeding calls and of the entry points. Each statement is a type; docs/PROOFS.md names its proof. Assumes nothing.
+use mathlib.Core.Path.{_≡_}
+use mathlib.Core.Bool.{true}
+use mathlib.Core.List.{List, [], _++_}
+use mathlib.Core.Logic.{_↔_}
+use Prim.Native.Nat.{ℕ, zero, suc, _-_, _≤_}
+use lib.ListN.{length, take, drop}
+use Rattle.words.specs.Words.{member, Every, Rising, ends-with, state-of}
+use Rattle.automaton.specs.Ceilings.{byte-ceiling, total-ceiling}
+use Rattle.codes.specs.Codes.{accepted}
+use Rattle.codes.specs.Sheet.{sheet}
+use Rattle.finder.specs.declared.Watch.{Watch}
+use Rattle.finder.specs.Feed.{opened, fit, place-if}
+use Rattle.finder.specs.Machine.{Machine, no-text, Call, machine-after, costs, sum}
+use Rattle.finder.specs.Runs.{watch-after, places-over, bytes-over}
+use Rattle.finder.specs.Entry.{Entered, Run-of, plain-calls, last-watch, written-places, taken-bytes, Refused-right}
+
+-- THE THIRD DEMAND: a watch has what the plain machine has, and the machine's costs keep to both ceilings
+pub record Counted (w : List ℕ) (x : Watch) (m : Machine) : Type 0 where
+  pub bytes : x .taken ≡ length (m .text)
+  pub state : x .state ≡ state-of w (m .text)
+  pub hits : x .hits ≡ length (m .found)
+  pub compares : x .compares ≡ m .total
+  pub adds : m .total ≡ sum (costs w [] (m .text))
+  pub each-below : Every (λ k. k ≤ byte-ceiling w) (costs w [] (m .text))
+  pub total-below : m .total ≤ total-ceiling (length w) (length (m .text))
+  pub fits : fit (length w) x ≡ true
+
+-- the machine after a list of calls
+abbrev pub after : (w : List ℕ) → List Call → Machine
+after w cs = machine-after w cs no-text
+
+-- of any list of calls from an opening on, refused ones among them
+unfoldable pub Runs-count : Type 0
+Runs-count = (w : List ℕ) (cs : List Call) → 1 ≤ length w → Counted w (watch-after w cs opened) (after w cs)
+
+-- the machine's text is the bytes taken
+unfoldable pub Text-taken : Type 0
+Text-taken = (w : List ℕ) (cs : List Call) → after w cs .text ≡ bytes-over w cs opened
+
+-- lists alike in the code and the bytes taken end alike, in the watch and in the places
+unfoldable pub Alike-count : Type 0
+Alike-count =
+    (w : List ℕ) (cs ds : List Call) → bytes-over w cs opened ≡ bytes-over w ds opened →
+    (watch-after w cs opened ≡ watch-after w ds opened) × (places-over w cs opened ≡ places-over w ds opened)
+
+-- THE SECOND DEMAND: the places that the calls write are those that the plain machine finds
+unfoldable pub Places-told : Type 0
+Places-told = (w : List ℕ) (cs : List Call) → places-over w cs opened ≡ after w cs .found
+
+-- those are the ends, one by one, at which the text so far ends with the code
+unfoldable pub places-in : (left end : ℕ) → (w text : List ℕ) → List ℕ
+places-in zero e w ts = []
+places-in (suc k) e w ts =
+    place-if (ends-with (take e ts) w (length w)) (e - length w) ++ places-in k (suc e) w ts
+
+unfoldable pub Places-right : Type 0
+Places-right = (w : List ℕ) (cs : List Call) → after w cs .found ≡ places-in (length (after w cs .text)) 1 w (after w cs .text)
+
+-- they rise, and i is one of them exactly when the bytes of the text from i on are the code
+unfoldable pub Places-stand : Type 0
+Places-stand =
+    (w : List ℕ) (cs : List Call) → 1 ≤ length w →
+    Rising (after w cs .found)
+    × ((i : ℕ) → (member i (after w cs .found) ≡ true) ↔ (take (length w) (drop i (after w cs .text)) ≡ w))
+
+-- THE ENTRY POINTS. What their own answers come to, over a run
+pub record Entries-counted (w : List ℕ) (es : List Entered) : Type 0 where
+  pub counted : Counted w (last-watch es opened) (after w (plain-calls es))
+  pub places : written-places es ≡ after w (plain-calls es) .found
+  pub text : taken-bytes es ≡ after w (plain-calls es) .text
+  pub refusals : Refused-right w es no-text
+
+-- of any run on a buffer that begins with the sheet of an accepted code, from an opening on
+unfoldable pub Entries-count : Type 0
+Entries-count =
+    (w rest : List ℕ) (es : List Entered) → accepted w ≡ true → Run-of (sheet w ++ rest) es opened → Entries-counted w es

@@ -1,0 +1,269 @@
+// Feeding: the watch (the scan's state), and one pass over the pieces of a text, a byte at a time.
+// The order of comparisons is that of Hancart's theorem 4.6: backward labels by falling target, then the forward label.
+ghost use mathlib.Core.Path.{_≡_};
+ghost use Prim.Native.Nat.{_+_, _-_, _^_, _≤_, _<_};
+ghost use lib.ListN.{length};
+ghost use Rattle.automaton.specs.Arrows.{try-forward, stepped};
+ghost use Rattle.codes.specs.Sheet.{named};
+ghost use Rattle.finder.specs.Feed.{longest-text, opened, fit};
+ghost use Rattle.finder.specs.Entry.{feed-refusal, Feed-says};
+ghost use Rattle.finder.specs.Inside.{On-sheet, Ready, with-step, Skipped, Turned, Took};
+use automaton::Arrow;
+use automaton::Step;
+use codes::is_sheet;
+use codes::wide;
+
+// A watch: the automaton's state, the bytes taken since the opening, the places reported, and the labels compared with bytes of the text.
+pub struct Watch {
+    pub state: u32,
+    pub taken: u32,
+    pub hits: u32,
+    pub compares: u64,
+}
+
+impl Watch {
+    // The longest code, and the most bytes that a watch takes.
+    pub const LONGEST_CODE: u32 = codes::LONGEST;
+
+    pub const LONGEST_TEXT: u32 = 4294967295;
+
+    // A new watch.
+    pub fn open() -> Watch
+        ensures { λ r. ⌜ r ≡ opened ⌝ }
+    {
+        Watch {
+            state: 0,
+            taken: 0,
+            hits: 0,
+            compares: 0,
+        }
+    }
+}
+
+// How a feeding ended: the piece is done, the list is full and bytes of the piece are left, or it was refused.
+pub enum Ending {
+    PieceDone,
+    ListFull,
+    Refused(u32),
+}
+
+// What a feeding answers: the new watch, the bytes taken, the places written, and the ending.
+pub struct Feeding {
+    pub watch: Watch,
+    pub taken: u32,
+    pub written: u32,
+    pub ending: Ending,
+}
+
+// The forward arrow of p, after `cost` labels were compared.
+fn forward_step(sheet: &[u8], m: usize, p: usize, byte: u8, cost: u32) -> Step
+    requires { ⌜ On-sheet (now sheet) × (m ≡ length (named (now sheet))) × (p ≤ m) × (cost < 256) ⌝ }
+    ensures { λ r. ⌜ r ≡ try-forward cost (named (now (sheet .entry))) p byte ⌝ }
+{
+    if p < m {
+        if sheet[p + 1] == byte {
+            return Step {
+                state: (p + 1) as u32,
+                cost: cost + 1,
+                arrow: Arrow::Forward,
+            };
+        }
+        return Step {
+            state: 0,
+            cost: cost + 1,
+            arrow: Arrow::Nothing,
+        };
+    }
+    Step {
+        state: 0,
+        cost: cost,
+        arrow: Arrow::Nothing,
+    }
+}
+
+// One byte from a state p of 1 or more: backward labels by falling target, then the forward one. Each turn compares one label.
+fn follow(sheet: &[u8], p: usize, byte: u8) -> Step
+    requires { ⌜ On-sheet (now sheet) × (1 ≤ p) × (p ≤ length (named (now sheet))) ⌝ }
+    ensures { λ r. ⌜ r ≡ stepped (named (now (sheet .entry))) p byte ⌝ }
+{
+    let m = wide(sheet[0]);
+    let end = 2 * m + 2 + wide(sheet[m + 1 + p]);
+    let mut i = 2 * m + 2 + wide(sheet[m + p]);
+    let mut cost: u32 = 0;
+    while i < end {
+        let t = wide(sheet[i]);
+        cost += 1;
+        if sheet[t] == byte {
+            return Step {
+                state: t as u32,
+                cost: cost,
+                arrow: Arrow::Back(t as u32),
+            };
+        }
+        i += 1;
+    }
+    forward_step(sheet, m, p, byte, cost)
+}
+
+// The watch after a step, for a code of m bytes.
+fn after_step(x: Watch, m: u32, s: Step) -> Watch
+    requires { ⌜ (x .taken < longest-text) × (x .hits ≤ x .taken) × (x .compares + s .cost < 2 ^ 64) ⌝ }
+    ensures { λ r. ⌜ r ≡ with-step m s x ⌝ }
+{
+    let hits = if s.state == m { x.hits + 1 } else { x.hits };
+    Watch {
+        state: s.state,
+        taken: x.taken + 1,
+        hits: hits,
+        compares: x.compares + (s.cost as u64),
+    }
+}
+
+// The first place from a place on where a byte stands, or the end: one comparison for each byte passed, and one for the byte found.
+fn skip(piece: &[u8], from: usize, byte: u8) -> usize
+    requires { ⌜ from ≤ length (now piece) ⌝ }
+    ensures { λ r. ⌜ Skipped (now (piece .entry)) from byte r ⌝ }
+{
+    let mut i = from;
+    while i < piece.len() {
+        if piece[i] == byte {
+            return i;
+        }
+        i += 1;
+    }
+    i
+}
+
+// Where a turn of the loop over a piece has come to.
+struct Turn {
+    watch: Watch,
+    at: usize,
+}
+
+// From state 0: the bytes that are not the code's first, and the one that is, if it comes. No byte is compared twice.
+fn from_start(sheet: &[u8], m: u32, x: Watch, piece: &[u8], i: usize) -> Turn
+    requires { ⌜ On-sheet (now sheet) × (m ≡ length (named (now sheet))) × (x .state ≡ 0) × (i < length (now piece)) × Ready m x (length (now piece) - i) ⌝ }
+    ensures { λ r. ⌜ Turned (named (now (sheet .entry))) (now (piece .entry)) x i r ⌝ }
+{
+    let j = skip(piece, i, sheet[1]);
+    let n = (j - i) as u32;
+    let y = Watch {
+        state: 0,
+        taken: x.taken + n,
+        hits: x.hits,
+        compares: x.compares + (n as u64),
+    };
+    if j == piece.len() {
+        return Turn { watch: y, at: j };
+    }
+    let s = Step {
+        state: 1,
+        cost: 1,
+        arrow: Arrow::Forward,
+    };
+    Turn {
+        watch: after_step(y, m, s),
+        at: j + 1,
+    }
+}
+
+// One turn: in state 0 all bytes up to the code's first, in any other state one byte.
+fn advance(sheet: &[u8], m: u32, x: Watch, piece: &[u8], i: usize) -> Turn
+    requires { ⌜ On-sheet (now sheet) × (m ≡ length (named (now sheet))) × (i < length (now piece)) × Ready m x (length (now piece) - i) ⌝ }
+    ensures { λ r. ⌜ Turned (named (now (sheet .entry))) (now (piece .entry)) x i r ⌝ }
+{
+    if x.state == 0 {
+        return from_start(sheet, m, x, piece, i);
+    }
+    let s = follow(sheet, x.state as usize, piece[i]);
+    Turn {
+        watch: after_step(x, m, s),
+        at: i + 1,
+    }
+}
+
+// The bytes of a piece, until it ends or the list is full.
+fn take_bytes(sheet: &[u8], first: Watch, piece: &[u8], places: &mut [u32]) -> Feeding
+    requires { ⌜ On-sheet (now sheet) × Ready (length (named (now sheet))) first (length (now piece)) ⌝ }
+    ensures { λ r. ⌜ Took (named (now (sheet .entry))) first (now (piece .entry)) r (now (places .entry)) (now (places .exit)) ⌝ }
+{
+    let m = wide(sheet[0]) as u32;
+    let mut x = first;
+    let mut i = 0;
+    let mut k = 0;
+    while i < piece.len() {
+        if places.len() <= k {
+            return Feeding {
+                watch: x,
+                taken: i as u32,
+                written: k as u32,
+                ending: Ending::ListFull,
+            };
+        }
+        let t = advance(sheet, m, x, piece, i);
+        x = t.watch;
+        i = t.at;
+        if x.state == m {
+            places[k] = x.taken - m;
+            k += 1;
+        }
+    }
+    Feeding {
+        watch: x,
+        taken: i as u32,
+        written: k as u32,
+        ending: Ending::PieceDone,
+    }
+}
+
+// Whether a watch is fit for a code of m bytes.
+fn is_fit(m: u32, x: Watch) -> bool
+    ensures { λ r. ⌜ r ≡ fit m x ⌝ }
+{
+    if m < x.state {
+        return false;
+    }
+    if x.taken < x.state {
+        return false;
+    }
+    if x.taken < x.hits {
+        return false;
+    }
+    x.compares <= 2 * (x.taken as u64)
+}
+
+// The refusal of a feeding, 0 for none: from the buffer, the watch, and the lengths of the piece and of the list.
+fn feed_refusal(buffer: &[u8], x: Watch, piece: usize, room: usize) -> u32
+    ensures { λ r. ⌜ r ≡ feed-refusal (now (buffer .entry)) x piece room ⌝ }
+{
+    if !is_sheet(buffer) {
+        return 4;
+    }
+    if !is_fit(wide(buffer[0]) as u32, x) {
+        return 5;
+    }
+    if room == 0 {
+        return 6;
+    }
+    if ((Watch::LONGEST_TEXT - x.taken) as usize) < piece {
+        return 7;
+    }
+    0
+}
+
+// Reads a piece of text with the sheet at the buffer's start: the places are written to the list's start, and the rest of the list is as it was.
+// A refusal answers the watch as it was and changes nothing.
+pub fn feed(buffer: &[u8], watch: Watch, piece: &[u8], places: &mut [u32]) -> Feeding
+    ensures { λ r. ⌜ Feed-says (now (buffer .entry)) watch (now (piece .entry)) r (now (places .entry)) (now (places .exit)) ⌝ }
+{
+    let refusal = feed_refusal(buffer, watch, piece.len(), places.len());
+    if refusal != 0 {
+        return Feeding {
+            watch: watch,
+            taken: 0,
+            written: 0,
+            ending: Ending::Refused(refusal),
+        };
+    }
+    take_bytes(buffer, watch, piece, places)
+}

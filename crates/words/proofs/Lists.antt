@@ -1,0 +1,105 @@
+-- Lists: equality as a test, membership as a test, facts of every element, and one element more at the end. Assumes nothing.
+use mathlib.Core.Path.{_≡_, refl, sym, ap, _∙_}
+use mathlib.Core.Bool.{Bool, true, false, _&&_, _||_}
+use mathlib.Core.Logic.{_≢_}
+use mathlib.Core.List.{List, [], _∷_, _++_}
+use Prim.Native.Nat.{ℕ, zero, suc, _+_, _-_, _≤_, _<_}
+use native.Mathlib.Omega.{arith}
+use lib.Dec.{eqb}
+use lib.ListN.{length, getD, take, drop, length-append}
+use lib.Seq.{take-at, getD-at, take-add, drop-at, length-take-le}
+use borrow.Author.Tests.{eqb-true, eqb-false, eq-eqb, ne-eqb}
+use Rattle.words.specs.Words.{member, Every, same}
+use Rattle.words.proofs.Tests.{by-test, never-both, and-left, and-right, and-both}
+
+-- EQUALITY
+pub same-refl : (xs : List ℕ) → same xs xs ≡ true
+unfolding same
+same-refl [] = refl
+same-refl (x ∷ xs) = and-both (eqb x x) (same xs xs) (eq-eqb x x refl) (same-refl xs)
+
+pub eq-same : {xs ys : List ℕ} → xs ≡ ys → same xs ys ≡ true
+eq-same {xs} e = rw (← e) (same-refl xs)
+
+pub same-eq : (xs ys : List ℕ) → same xs ys ≡ true → xs ≡ ys
+unfolding same
+same-eq [] [] e = refl
+same-eq [] (y ∷ ys) e = cc
+same-eq (x ∷ xs) [] e = cc
+same-eq (x ∷ xs) (y ∷ ys) e =
+    let head : x ≡ y = eqb-true x y (and-left (eqb x y) (same xs ys) e) in
+    let tail : xs ≡ ys = same-eq xs ys (and-right (eqb x y) (same xs ys) e) in
+    cc
+
+-- MEMBERSHIP
+pub member-nil : (v : ℕ) → member v [] ≡ false
+unfolding member
+member-nil v = refl
+
+pub member-head : (v : ℕ) (xs : List ℕ) → member v (v ∷ xs) ≡ true
+unfolding member
+member-head v xs = rw (eq-eqb v v refl)
+
+pub member-other : (v x : ℕ) (xs : List ℕ) → x ≢ v → member v (x ∷ xs) ≡ member v xs
+unfolding member
+member-other v x xs n = rw (ne-eqb x v n)
+
+pub member-more : (v x : ℕ) (xs : List ℕ) → member v xs ≡ true → member v (x ∷ xs) ≡ true
+unfolding member
+member-more v x xs m = by-test (eqb x v) (λ t. rw t) (λ t. rw (t, m))
+
+pub member-fewer : (v x : ℕ) (xs : List ℕ) → member v (x ∷ xs) ≡ false → (x ≢ v) × (member v xs ≡ false)
+unfolding member
+member-fewer v x xs m =
+    by-test (eqb x v)
+    (λ t. let head : member v (x ∷ xs) ≡ true = rw t in absurd (never-both head m))
+    (λ t. (eqb-false x v t, rw t at m))
+
+pub member-append : (v : ℕ) (xs ys : List ℕ) → member v (xs ++ ys) ≡ member v xs || member v ys
+unfolding member
+member-append v [] ys = refl
+member-append v (x ∷ xs) ys = by-test (eqb x v) (λ t. rw t) (λ t. rw t (member-append v xs ys))
+
+-- EVERY element
+pub every-map : {P Q : ℕ → Type 0} (xs : List ℕ) → ((x : ℕ) → P x → Q x) → Every P xs → Every Q xs
+every-map [] f all = tt
+every-map (x ∷ xs) f all = (f x (all .0), every-map xs f (all .1))
+
+pub every-member : (P : ℕ → Type 0) (xs : List ℕ) → Every P xs → (v : ℕ) → member v xs ≡ true → P v
+unfolding member
+every-member P [] all v m = absurd (never-both m refl)
+every-member P (x ∷ xs) all v m =
+    by-test (eqb x v)
+    (λ t. rw (eqb-true x v t) at (all .0))
+    (λ t. every-member P xs (all .1) v (rw t at m))
+
+pub every-at : (P : ℕ → Type 0) (xs : List ℕ) (i : ℕ) → Every P xs → i < length xs → P (getD xs i 0)
+every-at P [] i all h = absurd (omega arith)
+every-at P (x ∷ xs) zero all h = all .0
+every-at P (x ∷ xs) (suc i) all h = every-at P xs i (all .1) (omega arith)
+
+pub every-self : (xs : List ℕ) → Every (λ x. member x xs ≡ true) xs
+every-self [] = tt
+every-self (x ∷ xs) = (member-head x xs, every-map xs (λ y m. member-more y x xs m) (every-self xs))
+
+-- ONE MORE at the end
+pub length-snoc : (xs : List ℕ) (a : ℕ) → length (xs ++ (a ∷ [])) ≡ suc (length xs)
+length-snoc xs a = simp length-append (omega arith)
+
+module _ (xs ys : List ℕ) (a b : ℕ) (e : xs ++ (a ∷ []) ≡ ys ++ (b ∷ [])) where
+  snoc-length : length ys ≡ length xs
+  snoc-length = omega (arith, length-snoc xs a, length-snoc ys b, ap length e)
+
+  pub snoc-front : xs ≡ ys
+  snoc-front =
+      sym (take-at xs (a ∷ []) (length xs) refl) ∙ ap (take (length xs)) e ∙ take-at ys (b ∷ []) (length xs) snoc-length
+
+  pub snoc-last : a ≡ b
+  snoc-last =
+      sym (getD-at xs a [] 0 (length xs) refl) ∙ ap (λ (l : List ℕ). getD l (length xs) 0) e
+      ∙ getD-at ys b [] 0 (length xs) snoc-length
+
+-- the first j of what is behind i are what is behind i of the first i + j
+pub take-drop : (i j : ℕ) (l : List ℕ) → i ≤ length l → take j (drop i l) ≡ drop i (take (i + j) l)
+take-drop i j l h =
+    sym (ap (drop i) (take-add i j l) ∙ drop-at (take i l) (take j (drop i l)) i (length-take-le i l h))
