@@ -3,18 +3,18 @@ use mathlib.Core.Path.{_≡_, refl, sym, ap, _∙_}
 use mathlib.Core.Bool.{Bool, true, false, _||_, cond, true≢false, or-true}
 use mathlib.Core.List.{List, [], _∷_}
 use mathlib.Core.Logic.{_≢_}
-use Prim.Native.Nat.{ℕ, zero, suc, _+_, _*_, _-_, _/_, _^_, _≤_, _<_, min}
+use Prim.Native.Nat.{ℕ, zero, suc, _+_, _*_, _-_, _/_, _^_, _≤_, _<_}
 use native.Mathlib.Omega.{arith}
 use native.Mathlib.Nat.{le-trans, le-of-eq, two-pow-succ, le-min, zero-add, add-le-add}
 use native.Mathlib.Numerals.{one-add}
-use lib.Dec.{ltb, eqb}
+use lib.Dec.{eqb}
 use lib.ListN.{length, getD, take}
 use lib.Pow.{pow-mono}
 use borrow.Author.Tests.{eq-eqb}
 use Rattle.words.specs.Words.{byte, member, is-border}
 use Rattle.words.proofs.Tests.{by-test, by-le, by-eq, never-both}
 use Rattle.words.proofs.Lists.{member-nil, member-other}
-use Rattle.words.proofs.Ends.{Ends, ends-start, ends-whole, ends-within, ends-without}
+use Rattle.words.proofs.Ends.{Ends, ends-whole, ends-within, ends-without}
 use Rattle.words.proofs.Borders.{Border, border-is, border-test, overlap-border, overlap-label}
 use Rattle.automaton.specs.declared.Step.{Step}
 use Rattle.automaton.specs.Arrows.{targets-from, forward, back-targets, stepped}
@@ -22,7 +22,7 @@ use Rattle.automaton.specs.Ceilings.{log2, different, byte-ceiling}
 use Rattle.automaton.specs.Promise.{Byte-below}
 use Rattle.automaton.proofs.Targets.{targets-none, targets-new, targets-old, forward-inside, forward-end, target-range}
 use Rattle.automaton.proofs.Labels.{seen-one}
-use Rattle.automaton.proofs.Preparing.{arrows, arrows-zero}
+use Rattle.automaton.proofs.Preparing.{arrows}
 use Rattle.automaton.proofs.Steps.{forward-cases, stepped-cases}
 use Rattle.automaton.proofs.Logarithm.{log2-exponent}
 

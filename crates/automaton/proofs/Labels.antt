@@ -7,16 +7,15 @@ use Prim.Native.Nat.{ℕ, zero, suc, _+_, _-_, _≤_, _<_}
 use native.Mathlib.Omega.{arith}
 use lib.Dec.{eqb}
 use lib.ListN.{length, take}
-use lib.Seq.{length-take-le}
-use borrow.Author.Tests.{eqb-true, eqb-false, eq-eqb, ne-eqb}
-use Rattle.words.specs.Words.{byte, member, Every, ends-with}
+use borrow.Author.Tests.{eqb-true, eq-eqb, ne-eqb}
+use Rattle.words.specs.Words.{byte, member, Every}
 use Rattle.words.proofs.Tests.{by-test, by-eq, never-both}
 use Rattle.words.proofs.Lists.{member-nil, member-head, member-other, member-append, member-fewer, every-map}
 use Rattle.words.proofs.Ends.{Ends, ends-zero, ends-longer, ends-shorter, ends-label}
 use Rattle.words.proofs.Largest.{Largest, largest-wider}
 use Rattle.words.proofs.Borders.{Border, border-test}
 use Rattle.automaton.specs.Arrows.{label, targets-from}
-use Rattle.automaton.proofs.Targets.{label-suc, targets-none, targets-new, targets-old, targets-ind, Target, every-target, targets-members}
+use Rattle.automaton.proofs.Targets.{label-suc, targets-none, targets-new, targets-old, targets-ind, every-target, targets-members}
 
 -- of some targets those with a label that is not in ls
 unfoldable pub unlabelled : (w ls ts : List ℕ) → List ℕ

@@ -1,25 +1,22 @@
 -- The steps are the paper's: each leads to the longest start that the bytes read end with, and the listed targets are the backward arrows. Assumes nothing.
 use mathlib.Core.Path.{_≡_, refl, sym, ap, _∙_}
-use mathlib.Core.Bool.{Bool, true, false, cond}
+use mathlib.Core.Bool.{true, false}
 use mathlib.Core.Logic.{_≢_}
 use mathlib.Core.List.{List, [], _∷_, _++_}
 use Prim.Native.Nat.{ℕ, zero, suc, _+_, _-_, _≤_, _<_}
 use native.Mathlib.Omega.{arith}
-use lib.Dec.{eqb}
 use lib.ListN.{length, take}
 use lib.Seq.{length-take-le}
 use borrow.Author.Tests.{eq-eqb, ne-eqb}
-use Rattle.words.specs.Words.{byte, member, Every, state-of}
+use Rattle.words.specs.Words.{byte, member, state-of}
 use Rattle.words.proofs.Tests.{by-le, by-eq, never-both}
-use Rattle.words.proofs.Lists.{member-nil, member-head, member-other, member-fewer, every-member, every-self, length-snoc}
+use Rattle.words.proofs.Lists.{member-nil, member-other, member-fewer, every-member, every-self, length-snoc}
 use Rattle.words.proofs.Ends.{Ends, ends-start, ends-whole, ends-longer, ends-label, ends-inside, ends-within, ends-without, ends-snoc}
 use Rattle.words.proofs.Largest.{Largest, largest-one, largest-same, largest-wider, state-is}
 use Rattle.automaton.specs.declared.Step.{Step}
-use Rattle.automaton.specs.declared.Arrow.{Arrow}
-use Rattle.automaton.specs.declared.Arrow.the-variants.{Back, Forward, Nothing}
-use Rattle.automaton.specs.Arrows.{label, targets-from, forward, back-targets, step, try-forward, try-back, stepped, arrow-to}
+use Rattle.automaton.specs.Arrows.{label, targets-from, forward, back-targets, try-forward, try-back, stepped, arrow-to}
 use Rattle.automaton.specs.Promise.{leads-to, Steps-right, Back-arrow, Targets-right, Targets-fall}
-use Rattle.automaton.proofs.Targets.{label-suc, targets-ind, Target, every-target, targets-fall, forward-inside, forward-end, back-range, target-range}
+use Rattle.automaton.proofs.Targets.{label-suc, targets-ind, Target, targets-fall, forward-inside, forward-end, back-range, target-range}
 use Rattle.automaton.proofs.Labels.{labelled, Lacks, Led, seen-lacks, lacks-none, labelled-nil, labelled-on, labelled-off, labelled-largest}
 use Rattle.automaton.proofs.Preparing.{arrows}
 use Rattle.automaton.proofs.Steps.{back-on, back-off, back-nil, forward-on, forward-off, forward-cases, stepped-cases}

@@ -1,17 +1,17 @@
 -- The arrows of a state from those of its longest border: the rule by which a sheet is prepared, and its counts. Assumes nothing.
 use mathlib.Core.Path.{_≡_, refl, sym, ap, _∙_}
-use mathlib.Core.Bool.{Bool, true, false, _||_, cond}
+use mathlib.Core.Bool.{cond}
 use mathlib.Core.List.{List, [], _∷_, _++_, append-nil}
-use Prim.Native.Nat.{ℕ, zero, suc, _+_, _-_, _≤_, _<_}
+use Prim.Native.Nat.{ℕ, suc, _+_, _-_, _≤_, _<_}
 use native.Mathlib.Omega.{arith}
 use lib.Dec.{eqb}
 use lib.ListN.{length, take}
 use lib.Seq.{take-suc}
 use borrow.Author.Tests.{eq-eqb, ne-eqb}
-use Rattle.words.specs.Words.{byte, member, border-of}
-use Rattle.words.proofs.Tests.{by-test, by-le, by-eq}
+use Rattle.words.specs.Words.{byte, border-of}
+use Rattle.words.proofs.Tests.{by-le, by-eq}
 use Rattle.words.proofs.Lists.{member-nil, member-head, member-other}
-use Rattle.words.proofs.Largest.{Largest, largest-one, largest-same}
+use Rattle.words.proofs.Largest.{largest-one, largest-same}
 use Rattle.words.proofs.Borders.{Border, border-test, border-below, longest-is}
 use Rattle.automaton.specs.Arrows.{label, targets-from, forward, back-targets}
 use Rattle.automaton.specs.Preparing.{candidates, drops, kept, dropped}

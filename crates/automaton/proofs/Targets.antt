@@ -1,14 +1,14 @@
 -- What `targets-from` lists: targets of borders, with labels not seen, by falling target. Assumes nothing.
-use mathlib.Core.Path.{_≡_, refl, sym, ap, _∙_}
+use mathlib.Core.Path.{_≡_, refl, ap, _∙_}
 use mathlib.Core.Bool.{Bool, true, false, _&&_, not, cond}
 use mathlib.Core.List.{List, [], _∷_}
 use Prim.Native.Nat.{ℕ, zero, suc, _-_, _≤_, _<_}
 use native.Mathlib.Omega.{arith}
-use lib.Dec.{ltb, eqb}
+use lib.Dec.{eqb}
 use lib.ListN.{length}
 use borrow.Author.Tests.{lt-ltb, le-ltb, not-true, not-false, eqb-true}
 use Rattle.words.specs.Words.{byte, member, Every, Falling, is-border}
-use Rattle.words.proofs.Tests.{by-test, and-left, and-right, and-both}
+use Rattle.words.proofs.Tests.{by-test, and-left, and-right}
 use Rattle.words.proofs.Lists.{member-fewer, every-map}
 use Rattle.words.proofs.Borders.{Border, border-is, border-test}
 use Rattle.automaton.specs.Arrows.{label, targets-from, forward, back-targets}

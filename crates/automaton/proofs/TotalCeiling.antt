@@ -1,12 +1,11 @@
 -- The total ceiling: what one step adds, and so a run of steps. A word has any length but 0. Assumes nothing.
-use mathlib.Core.Path.{_≡_, refl, ap}
+use mathlib.Core.Path.{_≡_, ap}
 use mathlib.Core.List.{List}
 use Prim.Native.Nat.{ℕ, zero, suc, _+_, _*_, _-_, _≤_, _<_}
 use native.Mathlib.Omega.{arith}
 use native.Mathlib.Nat.{mul-le-mul-left, le-div-iff-mul-le, le-of-mul-le-mul-left}
 use lib.ListN.{length}
 use Rattle.automaton.specs.declared.Step.{Step}
-use Rattle.automaton.specs.declared.Arrow.{Arrow}
 use Rattle.automaton.specs.declared.Arrow.the-variants.{Back, Forward, Nothing}
 use Rattle.automaton.specs.Arrows.{forward, step, stepped}
 use Rattle.automaton.specs.Ceilings.{total-ceiling}

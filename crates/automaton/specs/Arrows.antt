@@ -1,5 +1,5 @@
 -- The automaton's arrows and steps. A code is a word w of any length m, a state a number p from 0 to m. Assumes nothing: these are definitions.
-use mathlib.Core.Bool.{Bool, _&&_, not, cond}
+use mathlib.Core.Bool.{_&&_, not, cond}
 use mathlib.Core.List.{List, [], _∷_, _++_}
 use Prim.Native.Nat.{ℕ, zero, suc, _-_}
 use lib.Dec.{ltb, eqb}

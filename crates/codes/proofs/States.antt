@@ -3,7 +3,7 @@ use mathlib.Core.Path.{_≡_, refl, sym, ap, _∙_}
 use mathlib.Core.Bool.{true, false}
 use mathlib.Core.Logic.{_≢_}
 use mathlib.Core.List.{List, [], _∷_, _++_, append-nil}
-use Prim.Native.Nat.{ℕ, zero, suc, _+_, _*_, _-_, _≤_, _<_}
+use Prim.Native.Nat.{ℕ, suc, _+_, _*_, _-_, _≤_, _<_}
 use native.Mathlib.Numerals.{add-one}
 use native.Mathlib.Nat.{le-refl}
 use native.Mathlib.Omega.{arith}
@@ -11,7 +11,7 @@ use lib.Dec.{ltb}
 use lib.ListN.{length, getD, drop, set, length-append, List·getD-append, drop-of-length-le}
 use lib.Seq.{drop-cons, append-snoc, getD-append-add}
 use borrow.Author.Tests.{eq-eqb, ne-eqb, lt-ltb, ltb-true}
-use Rattle.words.specs.Words.{byte, member, Every}
+use Rattle.words.specs.Words.{byte, member}
 use Rattle.words.proofs.Tests.{by-test}
 use Rattle.words.proofs.Lists.{length-snoc, every-at}
 use Rattle.words.proofs.Borders.{longest-is}

@@ -1,8 +1,8 @@
 -- A run of the entry point is a run of calls: on the sheet of an accepted code, with the watch of a run, only 6 and 7 refuse. Assumes nothing.
-use mathlib.Core.Path.{_≡_, refl}
+use mathlib.Core.Path.{_≡_, refl, _∙_}
 use mathlib.Core.Bool.{Bool, true, false, _&&_, cond}
 use mathlib.Core.List.{List, [], _∷_, _++_, append-nil, append-assoc}
-use Prim.Native.Nat.{ℕ, zero, suc}
+use Prim.Native.Nat.{ℕ, zero, suc, _≤_}
 use lib.Dec.{ltb, eqb, eqb·suc-zero}
 use lib.ListN.{length, take, drop}
 use lib.Seq.{take-at}
@@ -13,13 +13,14 @@ use Rattle.codes.proofs.Refusals.{accepted-bounds}
 use Rattle.codes.proofs.Sheets.{sheet-named, sheet-begins}
 use Rattle.finder.specs.declared.Watch.{Watch}
 use Rattle.finder.specs.declared.Ending.the-variants.{PieceDone, ListFull}
-use Rattle.finder.specs.Feed.{fit, Fed, feed, ending}
-use Rattle.finder.specs.Machine.{Machine, Call, call-refusal, machine-call, machine-after}
+use Rattle.finder.specs.Feed.{opened, fit, Fed, feed, ending}
+use Rattle.finder.specs.Machine.{Machine, no-text, Call, call-refusal, machine-call, machine-after}
 use Rattle.finder.specs.Runs.{called}
 use Rattle.finder.specs.Entry.{ending-refusal, feed-refusal, answer-by, feed-answer, feed-places, Feed-says, Entered, Run-of, plain, plain-calls, last-watch, written-places, taken-bytes, Refused-right}
-use Rattle.finder.specs.Promise.{Entries-count}
+use Rattle.finder.specs.Promise.{after, places-in, Entries-count, Entries-alike}
+use Rattle.finder.proofs.Places.{places-stand-in}
 use Rattle.finder.proofs.Runs.{Same, same-start, same-call}
-use Rattle.finder.proofs.Promises.{Kept, kept-start, kept-byte, counted}
+use Rattle.finder.proofs.Promises.{Kept, kept-start, kept-byte, counted, alike}
 
 -- ONE CALL of the entry point is one call of a run
 record As-called (w : List ℕ) (x : Watch) (e : Entered) : Type 0 where
@@ -86,13 +87,29 @@ module _ (w rest : List ℕ) (good : accepted w ≡ true) where
       let u = entries-same es t (r .1) in
       (simp append-assoc at (u .0), (rw (← (s .bytes)) (q .refusal), u .1))
 
+  entries-run : (es : List Entered) → Run-of (sheet w ++ rest) es opened →
+      Same w (Kept w) (last-watch es opened) (written-places es) (taken-bytes es) (after w (plain-calls es)) × Refused-right w es no-text
+  entries-run es r = entries-same es (same-start w (Kept w) (kept-start w)) r
+
 pub entries-count : Entries-count
 unfolding Entries-count
 entries-count w rest es good r =
-    let u = entries-same w rest good es (same-start w (Kept w) (kept-start w)) r in
+    let u = entries-run w rest good es r in
+    let s = u .0 in
+    let some : 1 ≤ length w = accepted-bounds w good .0 in
+    let found : written-places es ≡ places-in (length (taken-bytes es)) 1 w (taken-bytes es) =
+    rw (s .text) (s .told ∙ s .keeps .right) in
+    let stand = places-stand-in w (taken-bytes es) some in
     record {
-      counted = counted (accepted-bounds w good .0) (u .0);
-      places = u .0 .told;
-      text = u .0 .text;
       refusals = u .1;
+      counted = counted some s;
+      text = s .text;
+      places = s .told;
+      rise = rw found (stand .0);
+      stand = rw found (stand .1);
     }
+
+pub entries-alike : Entries-alike
+unfolding Entries-alike
+entries-alike w rest other es fs good r q e =
+    alike (entries-run w rest good es r .0) (entries-run w other good fs q .0) e

@@ -7,3 +7,4 @@ pub mod Runs
 pub mod Places
 pub mod Promises
 pub mod Entries
+pub mod Samples

@@ -143,7 +143,7 @@ pub places-stand : Places-stand
 unfolding Places-stand
 places-stand w cs some = rw (run w cs .keeps .right) (places-stand-in w (after w cs .text) some)
 
--- two watches with the same machine are equal
+-- LISTS ALIKE: watches and places told are equal where the bytes taken are, since a machine is read off its text
 same-watch : {w : List ℕ} {P : Machine → Type 0} {x y : Watch} {ps qs bs ds : List ℕ} {m : Machine} →
     Same w P x ps bs m → Same w P y qs ds m → x ≡ y
 same-watch u v =
@@ -155,12 +155,13 @@ same-watch u v =
       compares = (u .compares ∙ sym (v .compares)) i;
     }
 
--- and so are two machines with the same text
+pub alike : {w : List ℕ} {x y : Watch} {ps qs bs ds : List ℕ} {m n : Machine} →
+    Same w (Kept w) x ps bs m → Same w (Kept w) y qs ds n → bs ≡ ds → (x ≡ y) × (ps ≡ qs)
+alike {w} {m = m} {n} u v e =
+    let texts : m .text ≡ n .text = sym (u .text) ∙ e ∙ v .text in
+    let one : m ≡ n = u .keeps .alone ∙ ap (λ (ts : List ℕ). read w ts no-text) texts ∙ sym (v .keeps .alone) in
+    (same-watch (rw one at u) v, u .told ∙ ap (λ (k : Machine). k .found) one ∙ sym (v .told))
+
 pub alike-count : Alike-count
 unfolding Alike-count
-alike-count w cs ds e =
-    let u = run w cs in
-    let v = run w ds in
-    let texts : after w cs .text ≡ after w ds .text = sym (u .text) ∙ e ∙ v .text in
-    let one : after w cs ≡ after w ds = u .keeps .alone ∙ ap (λ (ts : List ℕ). read w ts no-text) texts ∙ sym (v .keeps .alone) in
-    (same-watch (rw one at u) v, u .told ∙ ap (λ (m : Machine). m .found) one ∙ sym (v .told))
+alike-count w cs ds e = alike (run w cs) (run w ds) e

@@ -1,23 +1,20 @@
 -- Reading a buffer that begins with a sheet, and the scan of a state's backward labels. Assumes nothing.
 use mathlib.Core.Path.{_≡_, refl, sym, ap, _∙_}
 use mathlib.Core.Logic.{_≢_}
-use mathlib.Core.List.{List, [], _∷_, _++_}
-use Prim.Native.Nat.{ℕ, zero, suc, _+_, _*_, _-_, _≤_, _<_}
+use mathlib.Core.List.{List, _++_}
+use Prim.Native.Nat.{ℕ, suc, _+_, _*_, _-_, _≤_, _<_}
 use native.Mathlib.Numerals.{add-one}
 use native.Mathlib.Omega.{arith}
 use borrow.Author.Tests.{eq-eqb, ne-eqb, lt-ltb, le-ltb}
-use lib.Dec.{ltb, eqb}
-use lib.ListN.{length, getD, take, drop, drop-of-length-le, length-append}
+use lib.ListN.{length, getD, drop, drop-of-length-le, length-append}
 use lib.Seq.{drop-cons}
 use Rattle.words.specs.Words.{byte}
 use Rattle.words.proofs.Lists.{every-at}
-use Rattle.automaton.specs.declared.Step.{Step}
 use Rattle.automaton.specs.declared.Arrow.the-variants.{Back, Forward, Nothing}
 use Rattle.automaton.specs.Arrows.{label, back-targets, targets-below, step, try-forward, try-back, stepped}
 use Rattle.automaton.proofs.Targets.{target-range}
-use Rattle.codes.specs.Sheet.{sheet, named, in-front, begins}
-use Rattle.codes.proofs.Refusals.{accepted-bounds}
-use Rattle.codes.proofs.Sheets.{sheet-first, sheet-code, sheet-count, sheet-target, sheet-holds, begins-accepted, begins-front}
+use Rattle.codes.specs.Sheet.{sheet, named, in-front}
+use Rattle.codes.proofs.Sheets.{sheet-first, sheet-code, sheet-count, sheet-target, sheet-holds}
 use Rattle.finder.specs.Inside.{On-sheet}
 
 -- WHAT STANDS WHERE

@@ -1,20 +1,19 @@
 -- The refusals of feeding in their order, what is known when none comes up, and the contract by refusal. Assumes nothing.
 use mathlib.Core.Path.{_≡_, refl, sym, ap, _∙_}
-use mathlib.Core.Bool.{Bool, true, false, not, cond}
+use mathlib.Core.Bool.{true, false, not}
 use mathlib.Core.Logic.{_≢_}
 use mathlib.Core.List.{List, [], _∷_}
 use Prim.Native.Nat.{ℕ, zero, suc, _+_, _≤_, _<_}
-use native.Mathlib.Omega.{arith}
 use borrow.Author.Tests.{eq-eqb, ne-eqb, lt-ltb, le-ltb, ltb-false, not-false}
-use lib.Dec.{ltb, eqb, eqb·suc-zero}
+use lib.Dec.{ltb, eqb}
 use lib.ListN.{length}
 use Rattle.codes.specs.Refusals.{refused-if, first-refusal}
-use Rattle.codes.specs.Sheet.{named, begins, in-front}
+use Rattle.codes.specs.Sheet.{named, begins}
 use Rattle.codes.proofs.Refusals.{refused, passed, none-first, none-later, accepted-bounds}
 use Rattle.codes.proofs.Sheets.{begins-accepted, begins-front}
 use Rattle.finder.specs.declared.Watch.{Watch}
 use Rattle.finder.specs.declared.Feeding.{Feeding}
-use Rattle.finder.specs.Feed.{longest-text, fit, feed}
+use Rattle.finder.specs.Feed.{longest-text, fit}
 use Rattle.finder.specs.Entry.{feed-refusal, refused-answer, answer-by, feed-answer, feed-places, Feed-says}
 use Rattle.finder.specs.Inside.{On-sheet, Ready, Took}
 use Rattle.finder.proofs.Fitness.{fit-ready}
@@ -77,14 +76,14 @@ module _ (bs : List ℕ) (x : Watch) (l k : ℕ) where
     later-6 : first-refusal (six ∷ seven ∷ []) ≡ 0
     later-6 = none-later 4 (not (fit (length (named bs)) x)) (six ∷ seven ∷ []) later-5
 
-    pub none-sheet : On-sheet bs
-    none-sheet = on-sheet bs from-4
-
-    pub none-ready : Ready (length (named bs)) x l
-    none-ready =
-        fit-ready (length (named bs)) x l
-        (not-false (fit (length (named bs)) x) (none-first 4 (not (fit (length (named bs)) x)) (six ∷ seven ∷ []) later-5))
-        (ltb-false longest-text (x .taken + l) (none-first 6 (ltb longest-text (x .taken + l)) [] (none-later 5 (eqb k 0) (seven ∷ []) later-6)))
+    pub none-refused : On-sheet bs × Ready (length (named bs)) x l
+    none-refused = (
+      on-sheet bs from-4,
+      fit-ready (length (named bs)) x l
+          (not-false (fit (length (named bs)) x) (none-first 4 (not (fit (length (named bs)) x)) (six ∷ seven ∷ []) later-5))
+          (ltb-false longest-text (x .taken + l)
+          (none-first 6 (ltb longest-text (x .taken + l)) [] (none-later 5 (eqb k 0) (seven ∷ []) later-6))),
+    )
 
 -- THE CONTRACT
 module _ (bs : List ℕ) (x : Watch) (cs a : List ℕ) (n : ℕ) (e : n ≡ feed-refusal bs x (length cs) (length a)) where

@@ -1,24 +1,24 @@
 -- The loop over a piece: the bytes taken and the places written so far come before what is fed of the rest. Assumes nothing.
 use mathlib.Core.Path.{_≡_, refl, sym, ap, _∙_}
-use mathlib.Core.Bool.{Bool, true, false, _&&_, cond, and-false}
+use mathlib.Core.Bool.{and-false}
 use mathlib.Core.Logic.{_≢_}
-use mathlib.Core.List.{List, [], _∷_, _++_, append-nil, append-assoc}
-use Prim.Native.Nat.{ℕ, zero, suc, _+_, _*_, _-_, _≤_, _<_}
+use mathlib.Core.List.{List, [], _∷_, _++_, append-nil}
+use Prim.Native.Nat.{ℕ, suc, _+_, _-_, _≤_, _<_}
 use native.Mathlib.Nat.{add-zero, sub-zero}
 use native.Mathlib.Numerals.{add-one}
 use native.Mathlib.Omega.{arith}
 use borrow.Author.Tests.{eq-eqb, lt-ltb, le-ltb}
-use lib.Dec.{ltb, eqb}
-use lib.ListN.{length, getD, take, drop, set, drop-of-length-le, length-set, take-append-drop}
+use lib.Dec.{eqb}
+use lib.ListN.{length, take, drop, set, drop-of-length-le, length-set, take-append-drop}
 use lib.Seq.{drop-cons, take-suc-set, drop-set-lt, length-take-le, drop-drop}
 use Rattle.codes.specs.Sheet.{named, in-front}
 use Rattle.finder.specs.declared.Watch.{Watch}
 use Rattle.finder.specs.declared.Turn.{Turn}
 use Rattle.finder.specs.declared.Ending.{Ending}
 use Rattle.finder.specs.declared.Ending.the-variants.{PieceDone, ListFull}
-use Rattle.finder.specs.Feed.{longest-text, Fed, fed, fed-more, feed, ending}
-use Rattle.finder.specs.Inside.{On-sheet, Ready, completed, Turned, Took}
-use Rattle.finder.proofs.Turns.{completed-one, completed-none}
+use Rattle.finder.specs.Feed.{longest-text, fed, fed-more, feed, ending}
+use Rattle.finder.specs.Inside.{On-sheet, Ready, completed, Turning, Turned, Took}
+use Rattle.finder.proofs.Turns.{completed-one, completed-none, more-none, more-more}
 
 -- i bytes are taken from x₀ on, and k places are written to a list that was ps₀
 pub record Taking (bs : List ℕ) (x₀ : Watch) (piece ps₀ : List ℕ) (m : ℕ) (x : Watch) (i k : ℕ) (ps : List ℕ) : Type 0 where
@@ -33,10 +33,6 @@ pub record Taking (bs : List ℕ) (x₀ : Watch) (piece ps₀ : List ℕ) (m : �
   pub tail : drop k ps ≡ drop k ps₀
   pub so-far : feed (named bs) piece (length ps₀) x₀ ≡ fed-more i (take k ps) (feed (named bs) (drop i piece) (length ps₀ - k) x)
 
-none-before : (f : Fed) → f ≡ fed-more 0 [] f
-unfolding fed-more
-none-before f = let e : f .taken ≡ 0 + f .taken = omega arith in rw (← e) refl
-
 pub taking-start : {bs : List ℕ} {x : Watch} {piece ps : List ℕ} (m : ℕ) → On-sheet bs → Ready (length (named bs)) x (length piece) → m ≡ length (named bs) →
     Taking bs x piece ps m x 0 0 ps
 taking-start {bs} {x} {piece} {ps} m o r e =
@@ -50,18 +46,12 @@ taking-start {bs} {x} {piece} {ps} m o r e =
       room = omega arith;
       size = refl;
       tail = refl;
-      so-far = rw (sub-zero (length ps)) (none-before (feed (named bs) piece (length ps) x));
+      so-far = rw (sub-zero (length ps)) (sym (more-none (feed (named bs) piece (length ps) x)));
     }
 
 none-after : (i : ℕ) (ps : List ℕ) (x : Watch) → fed-more i ps (fed x 0 []) ≡ fed x i ps
 unfolding fed-more
 none-after i ps x = rw (add-zero i, append-nil ps) refl
-
-more-more : (a b : ℕ) (ps qs : List ℕ) (f : Fed) → fed-more a ps (fed-more b qs f) ≡ fed-more (a + b) (ps ++ qs) f
-unfolding fed-more
-more-more a b ps qs f =
-    let e : a + (b + f .taken) ≡ a + b + f .taken = omega arith in
-    rw (e, append-assoc ps qs (f .places)) refl
 
 module _ {bs : List ℕ} {x₀ : Watch} {piece ps₀ : List ℕ} {m : ℕ} {x : Watch} {i k : ℕ} {ps : List ℕ} (t : Taking bs x₀ piece ps₀ m x i k ps) where
   -- THE END: with the piece, or with the list
@@ -98,6 +88,9 @@ module _ {bs : List ℕ} {x₀ : Watch} {piece ps₀ : List ℕ} {m : ℕ} {x : 
       answer ListFull (list-full l h) (rw (lt-ltb i (length piece) l, eq-eqb (length (take k ps)) (length ps₀) n) refl)
 
   -- A TURN
+  pub turning : i < length piece → Turning bs m x piece i
+  turning h = record { on = t .on; m-is = t .m-is; inside = h; ready = t .ready }
+
   module _ (r : k < length ps) (u : Turn) (v : Turned (named bs) piece x i u) where
     abbrev y : Watch
     y = u .watch

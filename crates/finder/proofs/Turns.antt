@@ -1,21 +1,21 @@
 -- What one byte and a run of bytes in state 0 do to a watch and to what is fed after them. Assumes nothing.
 use mathlib.Core.Path.{_≡_, refl, sym, ap, _∙_}
-use mathlib.Core.Bool.{Bool, true, false, cond}
+use mathlib.Core.Bool.{Bool, true, false}
 use mathlib.Core.Logic.{_≢_}
-use mathlib.Core.List.{List, [], _∷_, _++_, append-nil}
-use Prim.Native.Nat.{ℕ, zero, suc, _+_, _*_, _-_, _^_, _≤_, _<_, min}
+use mathlib.Core.List.{List, [], _∷_, _++_, append-assoc}
+use Prim.Native.Nat.{ℕ, zero, suc, _+_, _-_, _≤_, _<_}
 use native.Mathlib.Nat.{min-le-left, add-zero, sub-zero}
 use native.Mathlib.Numerals.{add-one}
 use native.Mathlib.Omega.{arith}
 use borrow.Author.Tests.{eq-eqb, ne-eqb, lt-ltb}
 use lib.Dec.{eqb}
-use lib.ListN.{length, getD, drop, drop-of-length-le}
+use lib.ListN.{length, getD, drop}
 use lib.Seq.{drop-cons}
 use Rattle.words.specs.Words.{byte}
 use Rattle.words.proofs.Tests.{by-eq}
 use Rattle.automaton.specs.declared.Step.{Step}
 use Rattle.automaton.specs.declared.Arrow.the-variants.{Forward, Nothing}
-use Rattle.automaton.specs.Arrows.{back-targets, step, try-forward, try-back, stepped}
+use Rattle.automaton.specs.Arrows.{step, try-forward, try-back, stepped}
 use Rattle.automaton.specs.Ceilings.{log2, different, byte-ceiling}
 use Rattle.automaton.specs.Promise.{Byte-below}
 use Rattle.automaton.proofs.Targets.{back-zero}
@@ -23,10 +23,11 @@ use Rattle.automaton.proofs.Steps.{step-bounds}
 use Rattle.automaton.proofs.Logarithm.{log2-bound}
 use Rattle.automaton.proofs.ByteCeiling.{byte-below}
 use Rattle.codes.specs.Codes.{longest-code}
+use Rattle.codes.specs.Sheet.{named}
 use Rattle.finder.specs.declared.Watch.{Watch}
-use Rattle.finder.specs.declared.Turn.{Turn}
-use Rattle.finder.specs.Feed.{longest-text, place-if, reported, with-byte, Fed, fed, fed-more, feed}
-use Rattle.finder.specs.Inside.{Ready, completed, with-step, missed, Skipped, Turned}
+use Rattle.finder.specs.Feed.{place-if, reported, with-byte, Fed, fed-more, feed}
+use Rattle.finder.specs.Inside.{Ready, completed, with-step, missed, Skipped, Turning, Turned}
+use Rattle.finder.proofs.Reading.{read-code}
 
 -- PLACES: none or one
 pub place-one : (t : Bool) (i : ℕ) → length (place-if t i) ≤ 1
@@ -71,26 +72,44 @@ ready-byte w c x n few r =
       cheap = omega (arith, r .cheap, step-cheap w (x .state) c (r .state) few);
     }
 
--- BYTES OF A PIECE from place i on
-module _ (w piece : List ℕ) (i : ℕ) (h : i < length piece) where
-  feed-byte : (k : ℕ) (x y : Watch) → y ≡ with-byte w (getD piece i 0) x →
-      feed w (drop i piece) (suc k) x ≡ fed-more 1 (completed (length w) y) (feed w (drop (i + 1) piece) (suc k - length (completed (length w) y)) y)
-  unfolding feed
-  feed-byte k x y e = rw (e, ← reported-completed w (getD piece i 0) x, add-one i, drop-cons piece i 0 h)
+-- WHAT IS FED, some bytes and places before the rest
+pub more-none : (f : Fed) → fed-more 0 [] f ≡ f
+unfolding fed-more
+more-none f = let e : 0 + f .taken ≡ f .taken = omega arith in rw e refl
 
-  pub turned-byte : (x y : Watch) → length w ≤ longest-code → y ≡ with-byte w (getD piece i 0) x → Ready (length w) x (length piece - i) →
-      Turned w piece x i (record { watch = y; at = i + 1 })
-  unfolding with-byte
-  turned-byte x y few e r =
+pub more-more : (a b : ℕ) (ps qs : List ℕ) (f : Fed) → fed-more a ps (fed-more b qs f) ≡ fed-more (a + b) (ps ++ qs) f
+unfolding fed-more
+more-more a b ps qs f =
+    let e : a + (b + f .taken) ≡ a + b + f .taken = omega arith in
+    rw (e, append-assoc ps qs (f .places)) refl
+
+-- one byte of a piece
+module _ (w piece : List ℕ) (i : ℕ) (h : i < length piece) (x y : Watch) (e : y ≡ with-byte w (getD piece i 0) x) where
+  feed-byte : (k : ℕ) →
+      feed w (drop i piece) (suc k) x
+      ≡ fed-more 1 (completed (length w) y) (feed w (drop (i + 1) piece) (suc k - length (completed (length w) y)) y)
+  unfolding feed
+  feed-byte k = rw (e, ← reported-completed w (getD piece i 0) x, add-one i, drop-cons piece i 0 h)
+
+  turned-one : length w ≤ longest-code → Ready (length w) x (length piece - i) → Turned w piece x i (record { watch = y; at = i + 1 })
+  turned-one few r =
       let one : i + 1 - i ≡ 1 = omega arith in
       let left : length piece - i ≡ suc (length piece - (i + 1)) = omega arith in
       record {
         later = omega arith;
         within = omega arith;
-        bytes = rw (one, e) (sym (add-one (x .taken)));
         ready = rw e (ready-byte w (getD piece i 0) x (length piece - (i + 1)) few (rw left at r));
-        feeds = λ k. rw one (feed-byte k x y e);
+        feeds = λ k. rw one (feed-byte k);
       }
+
+-- A TURN of one byte
+pub turned-byte : {bs : List ℕ} {m : ℕ} {x : Watch} {piece : List ℕ} {i : ℕ} → Turning bs m x piece i → (s : Step) (y : Watch) →
+    s ≡ stepped (named bs) (x .state) (getD piece i 0) → y ≡ with-step m s x → Turned (named bs) piece x i (record { watch = y; at = i + 1 })
+turned-byte {bs} {m} {x} {piece} {i} t s y step-is y-is =
+    let w : List ℕ = named bs in
+    turned-one w piece i (t .inside) x y
+    (y-is ∙ ap (λ (k : ℕ). with-step k s x) (t .m-is) ∙ ap (λ (q : Step). with-step (length w) q x) step-is ∙ step-byte w (getD piece i 0) x)
+    (t .on .few) (rw (t .m-is) at (t .ready))
 
 -- STATE 0: one comparison with the code's first byte
 module _ (w : List ℕ) (c : ℕ) (some : 1 ≤ length w) where
@@ -116,15 +135,6 @@ missed-more x n =
     let b : x .compares + 1 + n ≡ x .compares + suc n = omega arith in
     rw (a, b) refl
 
--- nothing before what was fed
-more-none : (f : Fed) → fed-more 0 [] f ≡ f
-unfolding fed-more
-more-none f = let e : 0 + f .taken ≡ f .taken = omega arith in rw e refl
-
-more-more : (a b : ℕ) (ps : List ℕ) (f : Fed) → fed-more a [] (fed-more b ps f) ≡ fed-more (a + b) ps f
-unfolding fed-more
-more-more a b ps f = let e : a + (b + f .taken) ≡ a + b + f .taken = omega arith in rw e refl
-
 missed-none : (x : Watch) → x .state ≡ 0 → x ≡ missed 0 x
 missed-none x e =
     λ i. record { state = e i; taken = sym (add-zero (x .taken)) i; hits = x .hits; compares = sym (add-zero (x .compares)) i }
@@ -141,16 +151,18 @@ feed-missed w piece (suc n) i k x some e h f =
     let none : completed (length w) (missed 1 x) ≡ [] = completed-none (length w) (missed 1 x) (λ z. omega arith) in
     let at : i + suc n ≡ i + 1 + n = omega arith in
     let one : 1 + n ≡ suc n = omega arith in
-    feed-byte w piece i (omega arith) k x (missed 1 x) miss
+    feed-byte w piece i (omega arith) x (missed 1 x) miss k
     ∙ rw (none, sub-zero (suc k))
     (ap (fed-more 1 [])
     (feed-missed w piece n (i + 1) k (missed 1 x) some refl (omega arith) (λ j lo hi. f j (omega arith) (omega arith)))
-    ∙ more-more 1 n [] (feed w (drop (i + 1 + n) piece) (suc k) (missed n (missed 1 x)))
+    ∙ more-more 1 n [] [] (feed w (drop (i + 1 + n) piece) (suc k) (missed n (missed 1 x)))
     ∙ rw (one, at, missed-more x n) refl)
 
 -- A TURN from state 0: the bytes up to the code's first, and that one if it comes
-module _ (w piece : List ℕ) (x : Watch) (i j : ℕ) (some : 1 ≤ length w) (few : length w ≤ longest-code) (e : x .state ≡ 0) (inside : i < length piece)
-    (r : Ready (length w) x (length piece - i)) (s : Skipped piece i (byte w 0) j) where
+module _ {bs : List ℕ} {m : ℕ} {x : Watch} {piece : List ℕ} {i : ℕ} (t : Turning bs m x piece i) (e : x .state ≡ 0) (j : ℕ) (s : Skipped piece i (getD bs 1 0) j) where
+  abbrev w : List ℕ
+  w = named bs
+
   abbrev n : ℕ
   n = j - i
 
@@ -160,9 +172,13 @@ module _ (w piece : List ℕ) (x : Watch) (i j : ℕ) (some : 1 ≤ length w) (f
   bounds : (i ≤ j) × (j ≤ length piece)
   bounds = (s .on, s .within)
 
-  ready-missed : Ready (length w) y (length piece - j)
-  ready-missed =
+  first : getD bs 1 0 ≡ byte w 0
+  first = read-code bs (t .on) 0 (t .on .some)
+
+  ready : Ready (length w) y (length piece - j)
+  ready =
       let b = bounds in
+      let r = t .ready in
       record {
         state = omega arith;
         read = omega arith;
@@ -175,35 +191,39 @@ module _ (w piece : List ℕ) (x : Watch) (i j : ℕ) (some : 1 ≤ length w) (f
   passed k =
       let b = bounds in
       let at : i + n ≡ j = omega arith in
-      rw at at (feed-missed w piece n i k x some e (omega arith) (λ a lo hi. s .others a lo (omega arith)))
+      rw at at (feed-missed w piece n i k x (t .on .some) e (omega arith) (λ a lo hi z. s .others a lo (omega arith) (z ∙ sym first)))
 
-  pub turned-missed : length piece ≤ j → Turned w piece x i (record { watch = missed (j - i) x; at = j })
+  pub turned-missed : length piece ≤ j → Turned (named bs) piece x i (record { watch = missed (j - i) x; at = j })
   turned-missed end =
       let b = bounds in
+      let some : 1 ≤ length w = t .on .some in
+      let inside : i < length piece = t .inside in
       let none : completed (length w) y ≡ [] = completed-none (length w) y (λ z. omega arith) in
-      record { later = omega arith; within = omega arith; bytes = refl; ready = ready-missed; feeds = λ k. rw (none, sub-zero (suc k)) (passed k) }
+      record { later = omega arith; within = omega arith; ready = ready; feeds = λ k. rw (none, sub-zero (suc k)) (passed k) }
 
-  module _ (found : j < length piece) (z : Watch) (z-is : z ≡ with-step (length w) (step 1 1 Forward) y) where
-    z-byte : z ≡ with-byte w (getD piece j 0) y
-    z-byte = z-is ∙ ap (λ (q : Step). with-step (length w) q y) (sym (start-on w (getD piece j 0) some (sym (s .found found)))) ∙ step-byte w (getD piece j 0) y
-
-    pub turned-start : Turned w piece x i (record { watch = z; at = j + 1 })
-    turned-start =
-        let b = bounds in
-        let t = turned-byte w piece j found y z few z-byte ready-missed in
-        let one : j + 1 - j ≡ 1 = omega arith in
-        let all : n + 1 ≡ j + 1 - i = omega arith in
-        let last : List ℕ = completed (length w) z in
-        record {
-          later = omega arith;
-          within = omega arith;
-          bytes = omega (arith, t .bytes);
-          ready = t .ready;
-          feeds = λ k.
-              passed k ∙ ap (fed-more n []) (rw one at (t .feeds k))
-              ∙ more-more n 1 last (feed w (drop (j + 1) piece) (suc k - length last) z)
-              ∙ ap (λ (a : ℕ). fed-more a last (feed w (drop (j + 1) piece) (suc k - length last) z)) all;
-        }
+  pub turned-start : j < length piece → (z : Watch) → z ≡ with-step m (step 1 1 Forward) (missed (j - i) x) →
+      Turned (named bs) piece x i (record { watch = z; at = j + 1 })
+  turned-start found z z-is =
+      let b = bounds in
+      let c : ℕ = getD piece j 0 in
+      let here : byte w 0 ≡ c = sym (s .found found ∙ first) in
+      let is : z ≡ with-byte w c y =
+      z-is ∙ ap (λ (k : ℕ). with-step k (step 1 1 Forward) y) (t .m-is)
+      ∙ ap (λ (q : Step). with-step (length w) q y) (sym (start-on w c (t .on .some) here))
+      ∙ step-byte w c y in
+      let u = turned-one w piece j found y z is (t .on .few) ready in
+      let one : j + 1 - j ≡ 1 = omega arith in
+      let all : n + 1 ≡ j + 1 - i = omega arith in
+      let last : List ℕ = completed (length w) z in
+      record {
+        later = omega arith;
+        within = omega arith;
+        ready = u .ready;
+        feeds = λ k.
+            passed k ∙ ap (fed-more n []) (rw one at (u .feeds k))
+            ∙ more-more n 1 [] last (feed w (drop (j + 1) piece) (suc k - length last) z)
+            ∙ ap (λ (a : ℕ). fed-more a last (feed w (drop (j + 1) piece) (suc k - length last) z)) all;
+      }
 
 -- THE WATCH AFTER A STEP, by whether the code is complete
 module _ (m : ℕ) (s : Step) (x : Watch) (h : ℕ) where

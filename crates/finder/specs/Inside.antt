@@ -53,11 +53,17 @@ pub record Skipped (piece : List ℕ) (from byte at : ℕ) : Type 0 where
   pub others : (i : ℕ) → from ≤ i → i < at → getD piece i 0 ≢ byte
   pub found : at < length piece → getD piece at 0 ≡ byte
 
--- a turn of the loop over a piece, from place i on: it takes bytes of which only the last may complete a place
+-- a turn of the loop over a piece can start at place i, with the sheet of a code of m bytes
+pub record Turning (bs : List ℕ) (m : ℕ) (x : Watch) (piece : List ℕ) (i : ℕ) : Type 0 where
+  pub on : On-sheet bs
+  pub m-is : m ≡ length (named bs)
+  pub inside : i < length piece
+  pub ready : Ready m x (length piece - i)
+
+-- it has taken bytes of which only the last may have completed a place
 pub record Turned (w piece : List ℕ) (x : Watch) (i : ℕ) (t : Turn) : Type 0 where
   pub later : i < t .at
   pub within : t .at ≤ length piece
-  pub bytes : t .watch .taken ≡ x .taken + (t .at - i)
   pub ready : Ready (length w) (t .watch) (length piece - t .at)
   pub feeds :
       (k : ℕ) →

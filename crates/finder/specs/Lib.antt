@@ -3,4 +3,5 @@ pub mod Machine
 pub mod Runs
 pub mod Entry
 pub mod Promise
+pub mod Samples
 pub mod Inside

@@ -64,14 +64,23 @@ Places-stand =
     Rising (after w cs .found)
     × ((i : ℕ) → (member i (after w cs .found) ≡ true) ↔ (take (length w) (drop i (after w cs .text)) ≡ w))
 
--- THE ENTRY POINTS. What their own answers come to, over a run
+-- THE ENTRY POINTS. What their own answers come to over a run: the third demand, and the second
 pub record Entries-counted (w : List ℕ) (es : List Entered) : Type 0 where
-  pub counted : Counted w (last-watch es opened) (after w (plain-calls es))
-  pub places : written-places es ≡ after w (plain-calls es) .found
-  pub text : taken-bytes es ≡ after w (plain-calls es) .text
   pub refusals : Refused-right w es no-text
+  pub counted : Counted w (last-watch es opened) (after w (plain-calls es))
+  pub text : taken-bytes es ≡ after w (plain-calls es) .text
+  pub places : written-places es ≡ after w (plain-calls es) .found
+  pub rise : Rising (written-places es)
+  pub stand : (i : ℕ) → (member i (written-places es) ≡ true) ↔ (take (length w) (drop i (taken-bytes es)) ≡ w)
 
 -- of any run on a buffer that begins with the sheet of an accepted code, from an opening on
 unfoldable pub Entries-count : Type 0
 Entries-count =
     (w rest : List ℕ) (es : List Entered) → accepted w ≡ true → Run-of (sheet w ++ rest) es opened → Entries-counted w es
+
+-- two runs alike in the code and the bytes taken end alike
+unfoldable pub Entries-alike : Type 0
+Entries-alike =
+    (w rest other : List ℕ) (es fs : List Entered) → accepted w ≡ true →
+    Run-of (sheet w ++ rest) es opened → Run-of (sheet w ++ other) fs opened → taken-bytes es ≡ taken-bytes fs →
+    (last-watch es opened ≡ last-watch fs opened) × (written-places es ≡ written-places fs)

@@ -7,7 +7,7 @@ ghost use Rattle.automaton.specs.Arrows.{try-forward, stepped};
 ghost use Rattle.codes.specs.Sheet.{named};
 ghost use Rattle.finder.specs.Feed.{longest-text, opened, fit};
 ghost use Rattle.finder.specs.Entry.{feed-refusal, Feed-says};
-ghost use Rattle.finder.specs.Inside.{On-sheet, Ready, with-step, Skipped, Turned, Took};
+ghost use Rattle.finder.specs.Inside.{On-sheet, Ready, with-step, Skipped, Turning, Turned, Took};
 use automaton::Arrow;
 use automaton::Step;
 use codes::is_sheet;
@@ -142,7 +142,7 @@ struct Turn {
 
 // From state 0: the bytes that are not the code's first, and the one that is, if it comes. No byte is compared twice.
 fn from_start(sheet: &[u8], m: u32, x: Watch, piece: &[u8], i: usize) -> Turn
-    requires { ⌜ On-sheet (now sheet) × (m ≡ length (named (now sheet))) × (x .state ≡ 0) × (i < length (now piece)) × Ready m x (length (now piece) - i) ⌝ }
+    requires { ⌜ Turning (now sheet) m x (now piece) i × (x .state ≡ 0) ⌝ }
     ensures { λ r. ⌜ Turned (named (now (sheet .entry))) (now (piece .entry)) x i r ⌝ }
 {
     let j = skip(piece, i, sheet[1]);
@@ -169,7 +169,7 @@ fn from_start(sheet: &[u8], m: u32, x: Watch, piece: &[u8], i: usize) -> Turn
 
 // One turn: in state 0 all bytes up to the code's first, in any other state one byte.
 fn advance(sheet: &[u8], m: u32, x: Watch, piece: &[u8], i: usize) -> Turn
-    requires { ⌜ On-sheet (now sheet) × (m ≡ length (named (now sheet))) × (i < length (now piece)) × Ready m x (length (now piece) - i) ⌝ }
+    requires { ⌜ Turning (now sheet) m x (now piece) i ⌝ }
     ensures { λ r. ⌜ Turned (named (now (sheet .entry))) (now (piece .entry)) x i r ⌝ }
 {
     if x.state == 0 {

@@ -1,17 +1,17 @@
 -- Borders of the starts of a word: which are borders of which, the longest one, and what two long ones share. Assumes nothing.
-use mathlib.Core.Path.{_≡_, refl, sym, ap, _∙_}
-use mathlib.Core.Bool.{true, _&&_}
+use mathlib.Core.Path.{_≡_, sym, ap, _∙_}
+use mathlib.Core.Bool.{true}
 use mathlib.Core.List.{List}
-use Prim.Native.Nat.{ℕ, zero, suc, _+_, _-_, _≤_, _<_}
+use Prim.Native.Nat.{ℕ, suc, _+_, _-_, _≤_, _<_}
 use native.Mathlib.Omega.{arith}
 use lib.Dec.{ltb}
-use lib.ListN.{length, getD, take, drop, length-take}
+use lib.ListN.{length, getD, take, drop}
 use lib.Seq.{take-suc, take-take, getD-take, getD-drop, length-take-le}
 use borrow.Author.Tests.{ltb-true, lt-ltb}
 use Rattle.words.specs.Words.{byte, ends-with, is-border, border-of}
 use Rattle.words.proofs.Tests.{and-left, and-right, and-both, same-test}
 use Rattle.words.proofs.Lists.{take-drop}
-use Rattle.words.proofs.Ends.{Ends, ends-is, ends-test, ends-zero, ends-start, ends-within, ends-without, ends-longer, ends-shorter, ends-label}
+use Rattle.words.proofs.Ends.{Ends, ends-is, ends-test, ends-zero, ends-within, ends-without, ends-longer, ends-shorter, ends-label}
 use Rattle.words.proofs.Largest.{Largest, largest-is}
 
 -- b is a border of the first p bytes of w

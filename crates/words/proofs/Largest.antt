@@ -1,5 +1,5 @@
 -- The largest number with a property: a record, its uniqueness, and the definitions that search for one. Assumes nothing.
-use mathlib.Core.Path.{_≡_, refl, sym, _∙_}
+use mathlib.Core.Path.{_≡_, refl}
 use mathlib.Core.Bool.{Bool, true, false, cond}
 use mathlib.Core.List.{List}
 use mathlib.Core.Logic.{_≢_}
@@ -10,7 +10,7 @@ use lib.ListN.{length}
 use borrow.Author.Tests.{eqb-true, eq-eqb}
 use Rattle.words.specs.Words.{ends-with, largest, state-of}
 use Rattle.words.proofs.Tests.{by-le, by-eq, never-both, same-test}
-use Rattle.words.proofs.Ends.{Ends, ends-is, ends-test, ends-zero, ends-start}
+use Rattle.words.proofs.Ends.{Ends, ends-is, ends-test, ends-zero}
 
 -- x is the largest number up to l with P
 pub record Largest (P : ℕ → Type 0) (l x : ℕ) : Type 0 where

@@ -1,10 +1,9 @@
+-- `after_step` meets its contract. By whether the step has completed the code. Assumes nothing.
 use mathlib.Core.Logic.{⊎-elim}
-use Rattle.finder.proofs.Turns.{stepped-hit, stepped-miss}
 use borrow.Author.Needs.{needs}
+use Rattle.finder.proofs.Turns.{stepped-hit, stepped-miss}
 use Rattle.finder.proofs.after_step.Statement.{statement}
 use Rattle.finder.proofs.after_step.Tie as tie
-use Rattle.finder.proofs.after_step.Reads as reads
-use Rattle.finder.proofs.after_step.Lts as lts
 
 add-hits : tie.Need-add-hits
 add-hits c = search needs

@@ -1,31 +1,36 @@
+-- `feed` meets its contract. By whether it is refused. Assumes nothing.
 use mathlib.Core.Path.{_∙_, sym}
-use lib.ListN.{length}
-use Rattle.finder.proofs.Refusing.{none-sheet, none-ready, says-refused, says-took}
 use borrow.Author.Needs.{needs}
+use lib.ListN.{length}
+use Rattle.finder.proofs.Refusing.{none-refused, says-refused, says-took}
 use Rattle.finder.proofs.feed.Statement.{statement}
 use Rattle.finder.proofs.feed.Tie as tie
-use Rattle.finder.proofs.feed.Reads as reads
-use Rattle.finder.proofs.feed.Lts as lts
-use Rattle.finder.proofs.feed_refusal.Reads as feed-refusal-reads
-use Rattle.finder.proofs.take_bytes.Reads as take-bytes-reads
 
 feed-refusal-requires : tie.Need-feed-refusal-requires
 feed-refusal-requires c κs = search needs
 
 returns : tie.Need-returns
-returns c = let a = c .before .before .before .before .before .args in says-refused (a .buffer .now) (a .watch) (a .piece .now) (a .places .now) (c .before .feed-refusal .result) (c .before .feed-refusal .ensures) (c .if1 .taken)
+returns c =
+    let a = c .before .before .before .before .before .args in
+    says-refused (a .buffer .now) (a .watch) (a .piece .now) (a .places .now) (c .before .feed-refusal .result)
+    (c .before .feed-refusal .ensures) (c .if1 .taken)
 
 take-bytes-requires : tie.Need-take-bytes-requires
 take-bytes-requires c κs =
     let a = c .before .before .before .before .before .before .args in
-    let none = sym (c .before .before .feed-refusal .ensures) ∙ c .before .if1 .left in
-    (none-sheet (a .buffer .now) (a .watch) (length (a .piece .now)) (length (a .places .now)) none, none-ready (a .buffer .now) (a .watch) (length (a .piece .now)) (length (a .places .now)) none)
+    none-refused (a .buffer .now) (a .watch) (length (a .piece .now)) (length (a .places .now))
+    (sym (c .before .before .feed-refusal .ensures) ∙ c .before .if1 .left)
 
 same-length : tie.Need-same-length
 same-length c = search needs
 
 returns-2 : tie.Need-returns-2
-returns-2 c = let a = c .before .before .before .before .before .before .before .before .before .args in says-took (a .buffer .now) (a .watch) (a .piece .now) (a .places .now) (c .before .before .before .before .before .feed-refusal .result) (c .before .before .before .before .before .feed-refusal .ensures) (c .before .before .before .before .if1 .left) (c .before .before .take-bytes .result) _ (c .before .before .take-bytes .ensures)
+returns-2 c =
+    let a = c .before .before .before .before .before .before .before .before .before .args in
+    says-took (a .buffer .now) (a .watch) (a .piece .now) (a .places .now)
+    (c .before .before .before .before .before .feed-refusal .result)
+    (c .before .before .before .before .before .feed-refusal .ensures) (c .before .before .before .before .if1 .left)
+    (c .before .before .take-bytes .result) _ (c .before .before .take-bytes .ensures)
 
 pub feed-spec : {M : Type 1} → statement M
 feed-spec =

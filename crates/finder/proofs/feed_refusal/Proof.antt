@@ -1,21 +1,17 @@
-use Prim.Native.Nat.{ℕ, zero-le}
+-- `feed_refusal` meets its contract. Test by test, in the order of the list of refusals. Assumes nothing.
 use mathlib.Core.Path.{_≡_, _∙_, sym, ap}
 use mathlib.Core.Bool.{Bool, true, false}
+use Prim.Native.Nat.{ℕ, zero-le}
 use native.Mathlib.Omega.{arith}
 use borrow.Author.Tests.{not-true, not-false}
+use borrow.Author.Needs.{needs}
 use lib.ListN.{length}
 use Rattle.codes.specs.Sheet.{named, begins}
 use Rattle.finder.specs.Feed.{fit}
 use Rattle.finder.proofs.Reading.{room, read-size}
 use Rattle.finder.proofs.Refusing.{on-sheet, refuses-4, refuses-5, refuses-6, refuses-7, refuses-none}
-use borrow.Author.Needs.{needs}
 use Rattle.finder.proofs.feed_refusal.Statement.{statement}
 use Rattle.finder.proofs.feed_refusal.Tie as tie
-use Rattle.finder.proofs.feed_refusal.Reads as reads
-use Rattle.finder.proofs.feed_refusal.Lts as lts
-use Rattle.codes.proofs.is_sheet.Reads as is-sheet-reads
-use Rattle.codes.proofs.wide.Reads as wide-reads
-use Rattle.finder.proofs.is_fit.Reads as is-fit-reads
 
 -- past the first test the buffer begins with a sheet
 begun : (c : tie.Else1) → begins (c .before .before .before .args .buffer .now) ≡ true
@@ -35,10 +31,15 @@ is-sheet-requires : tie.Need-is-sheet-requires
 is-sheet-requires c κs = search needs
 
 returns : tie.Need-returns
-returns c = let a = c .before .before .before .args in sym (refuses-4 (a .buffer .now) (a .x) (a .piece) (a .room) (sym (c .before .is-sheet .ensures) ∙ not-true (c .before .is-sheet .result) (c .if1 .taken)))
+returns c =
+    let a = c .before .before .before .args in
+    sym
+    (refuses-4 (a .buffer .now) (a .x) (a .piece) (a .room) (sym (c .before .is-sheet .ensures) ∙ not-true (c .before .is-sheet .result) (c .if1 .taken)))
 
 shared-slice-read-wide : tie.Need-shared-slice-read-wide
-shared-slice-read-wide c = omega (arith, room (c .before .before .before .before .args .buffer .now) (on-sheet (c .before .before .before .before .args .buffer .now) (begun (c .before))) 0 zero-le)
+shared-slice-read-wide c =
+    omega
+    (arith, room (c .before .before .before .before .args .buffer .now) (on-sheet (c .before .before .before .before .args .buffer .now) (begun (c .before))) 0 zero-le)
 
 wide-requires : tie.Need-wide-requires
 wide-requires c κs = search needs
@@ -50,10 +51,16 @@ is-fit-requires : tie.Need-is-fit-requires
 is-fit-requires c κs = search needs
 
 returns-2 : tie.Need-returns-2
-returns-2 c = let a = c .before .before .before .before .before .before .before .args in sym (refuses-5 (a .buffer .now) (a .x) (a .piece) (a .room) (begun (c .before .before .before .before)) (fits (c .before) false (not-true (c .before .is-fit .result) (c .if2 .taken))))
+returns-2 c =
+    let a = c .before .before .before .before .before .before .before .args in
+    sym
+    (refuses-5 (a .buffer .now) (a .x) (a .piece) (a .room) (begun (c .before .before .before .before)) (fits (c .before) false (not-true (c .before .is-fit .result) (c .if2 .taken))))
 
 returns-3 : tie.Need-returns-3
-returns-3 c = let a = c .before .before .before .before .before .before .before .before .args in sym (refuses-6 (a .buffer .now) (a .x) (a .piece) (a .room) (begun (c .before .before .before .before .before)) (fitting (c .before)) (c .if3 .taken))
+returns-3 c =
+    let a = c .before .before .before .before .before .before .before .before .args in
+    sym
+    (refuses-6 (a .buffer .now) (a .x) (a .piece) (a .room) (begun (c .before .before .before .before .before)) (fitting (c .before)) (c .if3 .taken))
 
 sub-if4 : tie.Need-sub-if4
 sub-if4 c = search needs
@@ -62,10 +69,16 @@ cast-if4 : tie.Need-cast-if4
 cast-if4 c = search needs
 
 returns-4 : tie.Need-returns-4
-returns-4 c = let a = c .before .before .before .before .before .before .before .before .before .before .args in sym (refuses-7 (a .buffer .now) (a .x) (a .piece) (a .room) (begun (c .before .before .before .before .before .before .before)) (fitting (c .before .before .before)) (c .before .before .if3 .left) (omega (arith, c .if4 .taken)))
+returns-4 c =
+    let a = c .before .before .before .before .before .before .before .before .before .before .args in
+    sym
+    (refuses-7 (a .buffer .now) (a .x) (a .piece) (a .room) (begun (c .before .before .before .before .before .before .before)) (fitting (c .before .before .before)) (c .before .before .if3 .left) (omega (arith, c .if4 .taken)))
 
 returns-5 : tie.Need-returns-5
-returns-5 c = let a = c .before .before .before .before .before .before .before .before .before .before .args in sym (refuses-none (a .buffer .now) (a .x) (a .piece) (a .room) (begun (c .before .before .before .before .before .before .before)) (fitting (c .before .before .before)) (c .before .before .if3 .left) (omega (arith, c .if4 .left, c .before .struct-known .given)))
+returns-5 c =
+    let a = c .before .before .before .before .before .before .before .before .before .before .args in
+    sym
+    (refuses-none (a .buffer .now) (a .x) (a .piece) (a .room) (begun (c .before .before .before .before .before .before .before)) (fitting (c .before .before .before)) (c .before .before .if3 .left) (omega (arith, c .if4 .left, c .before .struct-known .given)))
 
 pub feed-refusal-spec : {M : Type 1} → statement M
 feed-refusal-spec =

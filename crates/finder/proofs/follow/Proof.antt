@@ -1,15 +1,11 @@
-use Prim.Native.Nat.{zero-le}
+-- `follow` meets its contract. The loop keeps that the labels compared so far decide nothing yet: what is left of them is what the step is. Assumes nothing.
 use mathlib.Core.Path.{_∙_, sym}
-use Prim.Native.Nat.{ℕ, _-_}
+use Prim.Native.Nat.{zero-le, _-_}
 use native.Mathlib.Omega.{arith}
-use Rattle.finder.proofs.Reading.{Scan, scan-start, scan-end, scan-room, target-in, scan-hit, scan-on, room, read-size}
 use borrow.Author.Needs.{needs}
+use Rattle.finder.proofs.Reading.{Scan, scan-start, scan-end, scan-room, scan-hit, scan-on, room, read-size}
 use Rattle.finder.proofs.follow.Statement.{statement}
 use Rattle.finder.proofs.follow.Tie as tie
-use Rattle.finder.proofs.follow.Reads as reads
-use Rattle.finder.proofs.follow.Lts as lts
-use Rattle.codes.proofs.wide.Reads as wide-reads
-use Rattle.finder.proofs.forward_step.Reads as forward-step-reads
 
 abbrev Inv-loop : tie.InvT-loop
 Inv-loop sheet p byte m end i₀ cost₀ i cost = Scan sheet p byte m end i cost
@@ -36,7 +32,10 @@ add-wide-2 : tie.Need-add-wide-2 Inv-loop μ-loop
 add-wide-2 c = search needs
 
 shared-slice-read-wide-2 : tie.Need-shared-slice-read-wide-2 Inv-loop μ-loop
-shared-slice-read-wide-2 c = let a = c .before .before .before .before .args in omega (arith, c .before .wide .ensures .0, read-size (a .sheet .now) (c .before .before .before .before .pre .0), room (a .sheet .now) (c .before .before .before .before .pre .0) (a .p) (c .before .before .before .before .pre .2))
+shared-slice-read-wide-2 c =
+    let a = c .before .before .before .before .args in
+    omega
+    (arith, c .before .wide .ensures .0, read-size (a .sheet .now) (c .before .before .before .before .pre .0), room (a .sheet .now) (c .before .before .before .before .pre .0) (a .p) (c .before .before .before .before .pre .2))
 
 wide-requires-2 : tie.Need-wide-requires-2 Inv-loop μ-loop
 wide-requires-2 c κs = search needs
@@ -54,7 +53,10 @@ add-wide-3 : tie.Need-add-wide-3 Inv-loop μ-loop
 add-wide-3 c = search needs
 
 shared-slice-read-wide-3 : tie.Need-shared-slice-read-wide-3 Inv-loop μ-loop
-shared-slice-read-wide-3 c = let a = c .before .before .before .before .before .before .args in omega (arith, c .before .before .before .wide .ensures .0, read-size (a .sheet .now) (c .before .before .before .before .before .before .pre .0), room (a .sheet .now) (c .before .before .before .before .before .before .pre .0) (a .p) (c .before .before .before .before .before .before .pre .2))
+shared-slice-read-wide-3 c =
+    let a = c .before .before .before .before .before .before .args in
+    omega
+    (arith, c .before .before .before .wide .ensures .0, read-size (a .sheet .now) (c .before .before .before .before .before .before .pre .0), room (a .sheet .now) (c .before .before .before .before .before .before .pre .0) (a .p) (c .before .before .before .before .before .before .pre .2))
 
 wide-requires-3 : tie.Need-wide-requires-3 Inv-loop μ-loop
 wide-requires-3 c κs = search needs
@@ -80,7 +82,9 @@ add-cost : tie.Need-add-cost Inv-loop μ-loop
 add-cost c = search needs
 
 shared-slice-read-if1 : tie.Need-shared-slice-read-if1 Inv-loop μ-loop
-shared-slice-read-if1 c = omega (arith, c .before .wide4 .ensures .0, scan-room (c .before .before .before .before .loop .inv) (c .before .before .before .loop-test .taken) .1)
+shared-slice-read-if1 c =
+    omega
+    (arith, c .before .wide4 .ensures .0, scan-room (c .before .before .before .before .loop .inv) (c .before .before .before .loop-test .taken) .1)
 
 cast-t22 : tie.Need-cast-t22 Inv-loop μ-loop
 cast-t22 c = search needs
@@ -89,7 +93,9 @@ cast-t23 : tie.Need-cast-t23 Inv-loop μ-loop
 cast-t23 c = search needs
 
 returns : tie.Need-returns Inv-loop μ-loop
-returns c = scan-hit (c .before .before .before .before .before .loop .inv) (c .before .before .before .before .loop-test .taken) (c .before .before .wide4 .result) (c .before .before .wide4 .ensures .0) (c .if1 .taken)
+returns c =
+    scan-hit (c .before .before .before .before .before .loop .inv) (c .before .before .before .before .loop-test .taken)
+    (c .before .before .wide4 .result) (c .before .before .wide4 .ensures .0) (c .if1 .taken)
 
 add-i-3 : tie.Need-add-i-3 Inv-loop μ-loop
 add-i-3 c = search needs
@@ -98,7 +104,9 @@ loop-less : tie.Need-loop-less Inv-loop μ-loop
 loop-less c = search needs
 
 loop-again : tie.Need-loop-again Inv-loop μ-loop
-loop-again c = scan-on (c .before .before .before .before .before .loop .inv) (c .before .before .before .before .loop-test .taken) (c .before .before .wide4 .result) (c .before .before .wide4 .ensures .0) (c .if1 .left)
+loop-again c =
+    scan-on (c .before .before .before .before .before .loop .inv) (c .before .before .before .before .loop-test .taken)
+    (c .before .before .wide4 .result) (c .before .before .wide4 .ensures .0) (c .if1 .left)
 
 forward-step-requires : tie.Need-forward-step-requires Inv-loop μ-loop
 forward-step-requires c κs = search needs

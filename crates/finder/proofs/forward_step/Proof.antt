@@ -1,18 +1,20 @@
-use mathlib.Core.Path.{_∙_, sym, ap}
+-- `forward_step` meets its contract. Read off the sheet, byte p + 1 of the buffer is the forward label. Assumes nothing.
+use mathlib.Core.Path.{_∙_, sym}
 use native.Mathlib.Omega.{arith}
+use borrow.Author.Needs.{needs}
 use Rattle.codes.specs.Sheet.{named}
 use Rattle.finder.proofs.Reading.{read-code, room, forward-hit, forward-miss, forward-none}
-use borrow.Author.Needs.{needs}
 use Rattle.finder.proofs.forward_step.Statement.{statement}
 use Rattle.finder.proofs.forward_step.Tie as tie
-use Rattle.finder.proofs.forward_step.Reads as reads
-use Rattle.finder.proofs.forward_step.Lts as lts
 
 add-if2 : tie.Need-add-if2
 add-if2 c = search needs
 
 shared-slice-read-if2 : tie.Need-shared-slice-read-if2
-shared-slice-read-if2 c = let a = c .before .before .args in let q = c .before .before .pre in omega (arith, room (a .sheet .now) (q .0) (a .p) (omega arith))
+shared-slice-read-if2 c =
+    let a = c .before .before .args in
+    let q = c .before .before .pre in
+    omega (arith, room (a .sheet .now) (q .0) (a .p) (omega arith))
 
 add-t11 : tie.Need-add-t11
 add-t11 c = search needs

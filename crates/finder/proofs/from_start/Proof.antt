@@ -1,22 +1,15 @@
-use Prim.Native.Nat.{ℕ, zero-le}
-use mathlib.Core.Path.{_≡_}
+-- `from_start` meets its contract. By whether the code's first byte comes before the piece ends. Assumes nothing.
+use Prim.Native.Nat.{zero-le}
 use native.Mathlib.Omega.{arith}
-use lib.ListN.{length, getD}
-use Rattle.words.specs.Words.{byte}
-use Rattle.codes.specs.Sheet.{named}
-use Rattle.finder.specs.Inside.{Ready, Skipped}
-use Rattle.finder.proofs.Reading.{room, read-code}
-use Rattle.finder.proofs.Turns.{turned-missed, turned-start}
 use borrow.Author.Needs.{needs}
+use Rattle.finder.proofs.Reading.{room}
+use Rattle.finder.proofs.Turns.{turned-missed, turned-start}
 use Rattle.finder.proofs.from_start.Statement.{statement}
 use Rattle.finder.proofs.from_start.Tie as tie
-use Rattle.finder.proofs.from_start.Reads as reads
-use Rattle.finder.proofs.from_start.Lts as lts
-use Rattle.finder.proofs.after_step.Reads as after-step-reads
-use Rattle.finder.proofs.skip.Reads as skip-reads
 
 shared-slice-read-skip : tie.Need-shared-slice-read-skip
-shared-slice-read-skip c = omega (arith, room (c .before .before .before .args .sheet .now) (c .before .before .before .pre .0) 0 zero-le)
+shared-slice-read-skip c =
+    omega (arith, room (c .before .before .before .args .sheet .now) (c .before .before .before .pre .0 .on) 0 zero-le)
 
 skip-requires : tie.Need-skip-requires
 skip-requires c κs = search needs
@@ -38,12 +31,8 @@ add-t15 c = search needs
 
 returns : tie.Need-returns
 returns c =
-    let a = c .before .before .before .before .before .before .before .args in
     let q = c .before .before .before .before .before .before .before .pre in
-    let w = named (a .sheet .now) in
-    let s : Skipped (a .piece .now) (a .i) (byte w 0) (c .before .before .before .skip .result) = rw (read-code (a .sheet .now) (q .0) 0 (q .0 .some)) at (c .before .before .before .skip .ensures) in
-    let r : Ready (length w) (a .x) _ = rw (q .1) at (q .4) in
-    turned-missed w (a .piece .now) (a .x) (a .i) (c .before .before .before .skip .result) (q .0 .some) (q .0 .few) (q .2) (q .3) r s (omega arith)
+    turned-missed (q .0) (q .1) (c .before .before .before .skip .result) (c .before .before .before .skip .ensures) (omega arith)
 
 after-step-requires : tie.Need-after-step-requires
 after-step-requires c κs = search needs
@@ -53,12 +42,9 @@ add-t12 c = search needs
 
 returns-2 : tie.Need-returns-2
 returns-2 c =
-    let a = c .before .before .before .before .before .before .before .before .args in
     let q = c .before .before .before .before .before .before .before .before .pre in
-    let w = named (a .sheet .now) in
-    let s : Skipped (a .piece .now) (a .i) (byte w 0) (c .before .before .before .before .skip .result) = rw (read-code (a .sheet .now) (q .0) 0 (q .0 .some)) at (c .before .before .before .before .skip .ensures) in
-    let r : Ready (length w) (a .x) _ = rw (q .1) at (q .4) in
-    turned-start w (a .piece .now) (a .x) (a .i) (c .before .before .before .before .skip .result) (q .0 .some) (q .0 .few) (q .2) (q .3) r s (omega (arith, s .within, c .before .if1 .left)) (c .after-step .result) (rw (q .1) at (c .after-step .ensures))
+    let s = c .before .before .before .before .skip .ensures in
+    turned-start (q .0) (q .1) (c .before .before .before .before .skip .result) s (omega (arith, s .within, c .before .if1 .left)) (c .after-step .result) (c .after-step .ensures)
 
 pub from-start-spec : {M : Type 1} → statement M
 from-start-spec =

@@ -1,13 +1,12 @@
-use Rattle.finder.proofs.Turns.{skipped-more}
-use Prim.Native.Nat.{ℕ, _-_, _≤_, _<_}
+-- `skip` meets its contract. The loop keeps that no byte passed is the one looked for. Assumes nothing.
 use mathlib.Core.Logic.{_≢_}
+use Prim.Native.Nat.{ℕ, _-_, _≤_, _<_}
 use native.Mathlib.Omega.{arith}
-use lib.ListN.{length, getD}
 use borrow.Author.Needs.{needs}
+use lib.ListN.{length, getD}
+use Rattle.finder.proofs.Turns.{skipped-more}
 use Rattle.finder.proofs.skip.Statement.{statement}
 use Rattle.finder.proofs.skip.Tie as tie
-use Rattle.finder.proofs.skip.Reads as reads
-use Rattle.finder.proofs.skip.Lts as lts
 
 abbrev Inv-loop : tie.InvT-loop
 Inv-loop piece from byte i₀ i = (from ≤ i) × (i ≤ length piece) × ((j : ℕ) → from ≤ j → j < i → getD piece j 0 ≢ byte)

@@ -1,17 +1,13 @@
-use mathlib.Core.Path.{_∙_, sym, ap}
+-- `take_bytes` meets its contract. The loop keeps that the bytes taken and the places written come before what is fed of the rest. Assumes nothing.
+use mathlib.Core.Path.{_∙_}
 use Prim.Native.Nat.{_-_, zero-le}
 use native.Mathlib.Omega.{arith}
-use lib.ListN.{length}
-use Rattle.codes.specs.Sheet.{named}
-use Rattle.finder.proofs.Reading.{room, read-size}
-use Rattle.finder.proofs.Taking.{Taking, taking-start, answer-done, answer-full, turn-hit, turn-miss}
 use borrow.Author.Needs.{needs}
+use lib.ListN.{length}
+use Rattle.finder.proofs.Taking.{turning, Taking, taking-start, answer-done, answer-full, turn-hit, turn-miss}
+use Rattle.finder.proofs.Reading.{room, read-size}
 use Rattle.finder.proofs.take_bytes.Statement.{statement}
 use Rattle.finder.proofs.take_bytes.Tie as tie
-use Rattle.finder.proofs.take_bytes.Reads as reads
-use Rattle.finder.proofs.take_bytes.Lts as lts
-use Rattle.codes.proofs.wide.Reads as wide-reads
-use Rattle.finder.proofs.advance.Reads as advance-reads
 
 abbrev Inv-loop : tie.InvT-loop
 Inv-loop sheet piece places₀ m x₀ i₀ k₀ places x i k = Taking sheet x₀ piece places₀ m x i k places
@@ -20,7 +16,8 @@ abbrev μ-loop : tie.MeasureT-loop
 μ-loop sheet piece places₀ m x₀ i₀ k₀ places x i k = length piece - i
 
 shared-slice-read-wide : tie.Need-shared-slice-read-wide Inv-loop μ-loop
-shared-slice-read-wide c = omega (arith, room (c .before .before .before .before .args .sheet .now) (c .before .before .before .before .pre .0) 0 zero-le)
+shared-slice-read-wide c =
+    omega (arith, room (c .before .before .before .before .args .sheet .now) (c .before .before .before .before .pre .0) 0 zero-le)
 
 wide-requires : tie.Need-wide-requires Inv-loop μ-loop
 wide-requires c κs = search needs
@@ -29,7 +26,10 @@ cast-m : tie.Need-cast-m Inv-loop μ-loop
 cast-m c = search needs
 
 loop-holds : tie.Need-loop-holds Inv-loop μ-loop
-loop-holds c = let a = c .before .before .before .before .before .args in let q = c .before .before .before .before .before .pre in taking-start (c .wide .result) (q .0) (q .1) (c .wide .ensures .0 ∙ read-size (a .sheet .now) (q .0))
+loop-holds c =
+    let a = c .before .before .before .before .before .args in
+    let q = c .before .before .before .before .before .pre in
+    taking-start (c .wide .result) (q .0) (q .1) (c .wide .ensures .0 ∙ read-size (a .sheet .now) (q .0))
 
 cast-t15 : tie.Need-cast-t15 Inv-loop μ-loop
 cast-t15 c = let t = c .before .before .loop .inv in omega (arith, t .within, t .short)
@@ -44,31 +44,43 @@ returns : tie.Need-returns Inv-loop μ-loop
 returns c = answer-full (c .before .before .loop .inv) (c .before .loop-test .taken) (c .if1 .taken)
 
 advance-requires : tie.Need-advance-requires Inv-loop μ-loop
-advance-requires c κs = let t = c .before .before .loop .inv in (t .on, t .m-is, c .before .loop-test .taken, t .ready)
+advance-requires c κs = turning (c .before .before .loop .inv) (c .before .loop-test .taken)
 
 sub-places : tie.Need-sub-places Inv-loop μ-loop
-sub-places c = let t = c .before .before .before .before .before .before .before .loop .inv in let v = c .before .before .before .before .advance .ensures in omega (arith, v .ready .read, c .before .if2 .taken)
+sub-places c =
+    let t = c .before .before .before .before .before .before .before .loop .inv in
+    let v = c .before .before .before .before .advance .ensures in
+    omega (arith, v .ready .read, c .before .if2 .taken)
 
 mul-places : tie.Need-mul-places Inv-loop μ-loop
-mul-places c = let t = c .before .before .before .before .before .before .before .loop .inv in omega (arith, t .fewer, t .within, t .short)
+mul-places c =
+    let t = c .before .before .before .before .before .before .before .loop .inv in
+    omega (arith, t .fewer, t .within, t .short)
 
 slice-write-places : tie.Need-slice-write-places Inv-loop μ-loop
 slice-write-places c = search needs
 
 add-k : tie.Need-add-k Inv-loop μ-loop
-add-k c = let t = c .before .before .before .before .before .before .before .loop .inv in omega (arith, t .fewer, t .within, t .short)
+add-k c =
+    let t = c .before .before .before .before .before .before .before .loop .inv in
+    omega (arith, t .fewer, t .within, t .short)
 
 loop-less : tie.Need-loop-less Inv-loop μ-loop
 loop-less c = let v = c .before .before .before .before .advance .ensures in omega (arith, v .later, v .within)
 
 loop-again : tie.Need-loop-again Inv-loop μ-loop
-loop-again c = turn-hit (c .before .before .before .before .before .before .before .loop .inv) (c .before .before .before .before .before .if1 .left) (c .before .before .before .before .advance .result) (c .before .before .before .before .advance .ensures) (c .before .if2 .taken)
+loop-again c =
+    turn-hit (c .before .before .before .before .before .before .before .loop .inv)
+    (c .before .before .before .before .before .if1 .left) (c .before .before .before .before .advance .result)
+    (c .before .before .before .before .advance .ensures) (c .before .if2 .taken)
 
 loop-less-2 : tie.Need-loop-less-2 Inv-loop μ-loop
 loop-less-2 c = let v = c .before .before .before .advance .ensures in omega (arith, v .later, v .within)
 
 loop-again-2 : tie.Need-loop-again-2 Inv-loop μ-loop
-loop-again-2 c = turn-miss (c .before .before .before .before .before .before .loop .inv) (c .before .before .before .before .if1 .left) (c .before .before .before .advance .result) (c .before .before .before .advance .ensures) (c .if2 .left)
+loop-again-2 c =
+    turn-miss (c .before .before .before .before .before .before .loop .inv) (c .before .before .before .before .if1 .left)
+    (c .before .before .before .advance .result) (c .before .before .before .advance .ensures) (c .if2 .left)
 
 cast-t21 : tie.Need-cast-t21 Inv-loop μ-loop
 cast-t21 c = let t = c .before .loop .inv in omega (arith, t .within, t .short)

@@ -1,0 +1,82 @@
+-- Document 01's bench samples that are marked P, as one table. Assumes nothing: these are definitions.
+use mathlib.Core.Path.{_≡_}
+use mathlib.Core.List.{List, [], _∷_, map}
+use Prim.Native.Nat.{ℕ, suc}
+use lib.ListN.{length}
+use Rattle.automaton.specs.Ceilings.{byte-ceiling, total-ceiling}
+use Rattle.codes.specs.Sheet.{sheet}
+use Rattle.finder.specs.Feed.{opened, Fed, feed, ending}
+use Rattle.finder.specs.Machine.{costs}
+use Rattle.finder.specs.Entry.{ending-full}
+
+-- A SAMPLE: lists of numbers as the definitions give them, and as the document says
+pub record Sample : Type 0 where
+  pub found : List (List ℕ)
+  pub expected : List (List ℕ)
+
+-- the sheet of a code
+unfoldable pub prepared : (code bytes : List ℕ) → Sample
+prepared w bs = record { found = sheet w ∷ []; expected = bs ∷ [] }
+
+-- a text fed as one piece from an opening on, with room for all its places
+unfoldable pub fed-whole : (code text : List ℕ) → Fed
+fed-whole w ts = feed w ts (suc (length ts)) opened
+
+-- the places of a code in a text; the bytes taken, the comparisons and the total ceiling
+unfoldable pub searched : (code text places : List ℕ) → (compares ceiling : ℕ) → Sample
+searched w ts ps k n =
+    let f = fed-whole w ts in
+    record {
+      found = f .places ∷ (f .taken ∷ f .after .compares ∷ total-ceiling (length w) (length ts) ∷ []) ∷ [];
+      expected = ps ∷ (length ts ∷ k ∷ n ∷ []) ∷ [];
+    }
+
+-- the costs of a text's bytes, one by one; the byte ceiling
+unfoldable pub costing : (code text each : List ℕ) → (ceiling : ℕ) → Sample
+costing w ts ks n = record { found = costs w [] ts ∷ (byte-ceiling w ∷ []) ∷ []; expected = ks ∷ (n ∷ []) ∷ [] }
+
+-- one call with a list of so many places: the places written; the watch's four numbers; the bytes taken, and 1 for list full
+unfoldable pub calling : (code piece : List ℕ) → (room : ℕ) → (places watch : List ℕ) → (taken full : ℕ) → Sample
+calling w cs k ps ws n e =
+    let f = feed w cs k opened in
+    let x = f .after in
+    record {
+      found = f .places ∷ (x .state ∷ x .taken ∷ x .hits ∷ x .compares ∷ []) ∷ (f .taken ∷ ending-full (ending cs k f) ∷ []) ∷ [];
+      expected = ps ∷ ws ∷ (n ∷ e ∷ []) ∷ [];
+    }
+
+-- the letters a, b, c and z
+abbrev A : ℕ
+A = 97
+
+abbrev B : ℕ
+B = 98
+
+abbrev C : ℕ
+C = 99
+
+abbrev Z : ℕ
+Z = 122
+
+abbrev pub abaab : List ℕ
+abaab = A ∷ B ∷ A ∷ A ∷ B ∷ []
+
+-- THE TABLE
+unfoldable pub samples : List Sample
+samples =
+    prepared (A ∷ []) (1 ∷ 97 ∷ 0 ∷ 1 ∷ 1 ∷ [])
+    ∷ prepared (A ∷ A ∷ A ∷ []) (3 ∷ 97 ∷ 97 ∷ 97 ∷ 0 ∷ 0 ∷ 0 ∷ 1 ∷ 3 ∷ [])
+    ∷ prepared (A ∷ A ∷ B ∷ []) (3 ∷ 97 ∷ 97 ∷ 98 ∷ 0 ∷ 0 ∷ 1 ∷ 2 ∷ 2 ∷ 1 ∷ [])
+    ∷ prepared abaab (5 ∷ 97 ∷ 98 ∷ 97 ∷ 97 ∷ 98 ∷ 0 ∷ 1 ∷ 1 ∷ 2 ∷ 3 ∷ 4 ∷ 1 ∷ 2 ∷ 1 ∷ 3 ∷ [])
+    ∷ searched (A ∷ A ∷ []) (A ∷ A ∷ A ∷ A ∷ []) (0 ∷ 1 ∷ 2 ∷ []) 4 6
+    ∷ searched (A ∷ B ∷ []) (A ∷ B ∷ A ∷ B ∷ []) (0 ∷ 2 ∷ []) 6 6
+    ∷ searched (A ∷ B ∷ A ∷ C ∷ []) (A ∷ B ∷ A ∷ Z ∷ []) [] 7 7
+    ∷ costing (A ∷ B ∷ A ∷ C ∷ []) (A ∷ B ∷ A ∷ Z ∷ []) (1 ∷ 2 ∷ 1 ∷ 3 ∷ []) 3
+    ∷ searched abaab (A ∷ B ∷ A ∷ A ∷ B ∷ A ∷ B ∷ A ∷ A ∷ B ∷ []) (0 ∷ 5 ∷ []) 15 18
+    ∷ calling (A ∷ A ∷ []) (A ∷ A ∷ A ∷ A ∷ []) 1 (0 ∷ []) (2 ∷ 2 ∷ 1 ∷ 2 ∷ []) 2 1
+    ∷ searched abaab [] [] 0 0
+    ∷ []
+
+-- what is found is what is expected, row by row
+unfoldable pub Samples-hold : Type 0
+Samples-hold = map (λ s. s .found) samples ≡ map (λ s. s .expected) samples
