@@ -5,12 +5,13 @@ use mathlib.Core.List.{List, [], _∷_}
 use mathlib.Core.Logic.{_≢_}
 use Prim.Native.Nat.{ℕ, zero, suc, _≤_, _<_}
 use native.Mathlib.Omega.{arith}
-use lib.Dec.{ltb, eqb}
+use lib.Dec.{ltb, eqb, eqb·suc-zero}
 use lib.ListN.{length}
 use borrow.Author.Tests.{eq-eqb, ne-eqb, lt-ltb, le-ltb, eqb-true, eqb-false, ltb-false}
 use Rattle.codes.specs.declared.Answer.the-variants.{Value, Refused}
 use Rattle.codes.specs.Refusals.{refused-if, first-refusal, answered}
 use Rattle.codes.specs.Codes.{longest-code, length-refusal, code-refusal, accepted}
+use Rattle.codes.specs.Promise.{Answers-told}
 
 -- THE FIRST of a list: its head, or the first behind it
 pub first-here : (n : ℕ) (ns : List ℕ) → n ≢ 0 → first-refusal (n ∷ ns) ≡ n
@@ -51,6 +52,11 @@ pub answered-refusal : (n v : ℕ) → n ≢ 0 → answered n v ≡ Refused n
 unfolding answered
 answered-refusal zero v h = absurd (h refl)
 answered-refusal (suc n) v h = refl
+
+pub answers-told : Answers-told
+unfolding Answers-told answered
+answers-told zero v = (refl, refl)
+answers-told (suc n) v = (refl, rw eqb·suc-zero refl)
 
 -- CODES: a length is refused where it is 0 or too large, and in no other case
 abbrev too-long : ℕ → List ℕ

@@ -1,11 +1,13 @@
 -- What is promised of sheets. Each statement is a type; docs/PROOFS.md names its proof. Assumes nothing.
 use mathlib.Core.Path.{_≡_}
-use mathlib.Core.Bool.{true}
+use mathlib.Core.Bool.{true, cond}
 use mathlib.Core.List.{List, _++_}
 use mathlib.Core.Logic.{_↔_}
 use Prim.Native.Nat.{ℕ, _+_, _*_, _≤_}
+use lib.Dec.{eqb}
 use lib.ListN.{length}
 use Rattle.automaton.specs.Arrows.{back-arrows}
+use Rattle.codes.specs.Refusals.{answered, answer-refusal, answer-value}
 use Rattle.codes.specs.Codes.{accepted}
 use Rattle.codes.specs.Sheet.{sheet, sheet-room, begins}
 
@@ -28,3 +30,7 @@ pub record Sheet-of (bs : List ℕ) : Type 0 where
 -- such a buffer is accepted, and no other
 unfoldable pub Begins-right : Type 0
 Begins-right = (bs : List ℕ) → (begins bs ≡ true) ↔ Sheet-of bs
+
+-- an answer has its refusal's number, and its value where there is none
+unfoldable pub Answers-told : Type 0
+Answers-told = (n v : ℕ) → (answer-refusal (answered n v) ≡ n) × (answer-value (answered n v) ≡ cond (eqb n 0) v 0)

@@ -2,13 +2,16 @@
 use mathlib.Core.Path.{_≡_, refl, _∙_}
 use mathlib.Core.Bool.{Bool, true, false, _&&_, cond}
 use mathlib.Core.List.{List, [], _∷_, _++_, append-nil, append-assoc}
-use Prim.Native.Nat.{ℕ, zero, suc, _≤_}
+use Prim.Native.Nat.{ℕ, zero, suc, _≤_, _<_}
+use native.Mathlib.Omega.{arith}
+use borrow.Author.Tests.{ltb-true, eqb-true}
 use lib.Dec.{ltb, eqb, eqb·suc-zero}
 use lib.ListN.{length, take, drop}
 use lib.Seq.{take-at}
+use Rattle.words.proofs.Tests.{and-left, and-right}
 use Rattle.codes.specs.Refusals.{refused-if, first-refusal}
 use Rattle.codes.specs.Codes.{accepted}
-use Rattle.codes.specs.Sheet.{sheet, in-front}
+use Rattle.codes.specs.Sheet.{sheet, named, in-front}
 use Rattle.codes.proofs.Refusals.{accepted-bounds}
 use Rattle.codes.proofs.Sheets.{sheet-named, sheet-begins}
 use Rattle.finder.specs.declared.Watch.{Watch}
@@ -16,8 +19,8 @@ use Rattle.finder.specs.declared.Ending.the-variants.{PieceDone, ListFul
 use Rattle.finder.specs.Feed.{opened, fit, Fed, feed, ending}
 use Rattle.finder.specs.Machine.{Machine, no-text, Call, call-refusal, machine-call, machine-after}
 use Rattle.finder.specs.Runs.{called}
-use Rattle.finder.specs.Entry.{ending-refusal, feed-refusal, answer-by, feed-answer, feed-places, Feed-says, Entered, Run-of, plain, plain-calls, last-watch, written-places, taken-bytes, Refused-right}
-use Rattle.finder.specs.Promise.{after, places-in, Entries-count, Entries-alike}
+use Rattle.finder.specs.Entry.{ending-refusal, ending-full, feed-refusal, answer-by, feed-answer, feed-places, Feed-says, Entered, Run-of, plain, plain-calls, last-watch, written-places, taken-bytes, Refused-right}
+use Rattle.finder.specs.Promise.{after, places-in, Endings-told, Entries-count, Entries-alike}
 use Rattle.finder.proofs.Places.{places-stand-in}
 use Rattle.finder.proofs.Runs.{Same, same-start, same-call}
 use Rattle.finder.proofs.Promises.{Kept, kept-start, kept-byte, counted, alike}
@@ -41,6 +44,27 @@ ending-none cs k f = go (eqb (length (f .places)) k && ltb (f .taken) (length cs
     go : (t : Bool) → ending-refusal (cond t ListFull PieceDone) ≡ 0
     go true = refl
     go false = refl
+
+full-says : (cs : List ℕ) (k : ℕ) (f : Fed) → ending-full (ending cs k f) ≡ 1 → (length (f .places) ≡ k) × (f .taken < length cs)
+unfolding ending
+full-says cs k f = go (eqb (length (f .places)) k && ltb (f .taken) (length cs)) refl
+  where
+    go : (t : Bool) → (eqb (length (f .places)) k && ltb (f .taken) (length cs)) ≡ t → ending-full (cond t ListFull PieceDone) ≡ 1 →
+        (length (f .places) ≡ k) × (f .taken < length cs)
+    go true t e = (
+      eqb-true (length (f .places)) k (and-left (eqb (length (f .places)) k) (ltb (f .taken) (length cs)) t),
+      ltb-true (f .taken) (length cs) (and-right (eqb (length (f .places)) k) (ltb (f .taken) (length cs)) t),
+    )
+    go false t e = absurd (omega arith)
+
+pub endings-told : Endings-told
+unfolding Endings-told feed-answer answer-by
+endings-told bs x cs k = go (feed-refusal bs x (length cs) k)
+  where
+    go : (n : ℕ) → let r = answer-by n (named bs) cs k x in
+        (ending-refusal (r .ending) ≡ n) × (ending-full (r .ending) ≡ 1 → (r .written ≡ k) × (r .taken < length cs))
+    go zero = (ending-none cs k (feed (named bs) cs k x), full-says cs k (feed (named bs) cs k x))
+    go (suc n) = (refl, λ e. absurd (omega arith))
 
 as-called : (w : List ℕ) (x : Watch) (e : Entered) (n : ℕ) → call-refusal (plain e) (x .taken) ≡ n →
     e .answer ≡ answer-by n w (e .piece) (length (e .list)) x →

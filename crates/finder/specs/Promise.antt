@@ -3,7 +3,7 @@ use mathlib.Core.Path.{_≡_}
 use mathlib.Core.Bool.{true}
 use mathlib.Core.List.{List, [], _++_}
 use mathlib.Core.Logic.{_↔_}
-use Prim.Native.Nat.{ℕ, zero, suc, _-_, _≤_}
+use Prim.Native.Nat.{ℕ, zero, suc, _-_, _≤_, _<_}
 use lib.ListN.{length, take, drop}
 use Rattle.words.specs.Words.{member, Every, Rising, ends-with, state-of}
 use Rattle.automaton.specs.Ceilings.{byte-ceiling, total-ceiling}
@@ -13,7 +13,7 @@ use Rattle.finder.specs.declared.Watch.{Watch}
 use Rattle.finder.specs.Feed.{opened, fit, place-if}
 use Rattle.finder.specs.Machine.{Machine, no-text, Call, machine-after, costs, sum}
 use Rattle.finder.specs.Runs.{watch-after, places-over, bytes-over}
-use Rattle.finder.specs.Entry.{Entered, Run-of, plain-calls, last-watch, written-places, taken-bytes, Refused-right}
+use Rattle.finder.specs.Entry.{ending-refusal, ending-full, feed-refusal, feed-answer, Entered, Run-of, plain-calls, last-watch, written-places, taken-bytes, Refused-right}
 
 -- THE THIRD DEMAND: a watch has what the plain machine has, and the machine's costs keep to both ceilings
 pub record Counted (w : List ℕ) (x : Watch) (m : Machine) : Type 0 where
@@ -63,6 +63,14 @@ Places-stand =
     (w : List ℕ) (cs : List Call) → 1 ≤ length w →
     Rising (after w cs .found)
     × ((i : ℕ) → (member i (after w cs .found) ≡ true) ↔ (take (length w) (drop i (after w cs .text)) ≡ w))
+
+-- an ending has its refusal's number, and says list full only when the list is full and bytes of the piece are left
+unfoldable pub Endings-told : Type 0
+Endings-told =
+    (buffer : List ℕ) (x : Watch) (piece : List ℕ) (room : ℕ) →
+    let r = feed-answer buffer x piece room in
+    (ending-refusal (r .ending) ≡ feed-refusal buffer x (length piece) room)
+    × (ending-full (r .ending) ≡ 1 → (r .written ≡ room) × (r .taken < length piece))
 
 -- THE ENTRY POINTS. What their own answers come to over a run: the third demand, and the second
 pub record Entries-counted (w : List ℕ) (es : List Entered) : Type 0 where

@@ -232,14 +232,14 @@ fn is_fit(m: u32, x: Watch) -> bool
     x.compares <= 2 * (x.taken as u64)
 }
 
-// The refusal of a feeding, 0 for none: from the buffer, the watch, and the lengths of the piece and of the list.
-fn feed_refusal(buffer: &[u8], x: Watch, piece: usize, room: usize) -> u32
-    ensures { λ r. ⌜ r ≡ feed-refusal (now (buffer .entry)) x piece room ⌝ }
+// The refusal of a feeding, 0 for none: from the sheet, the watch, and the lengths of the piece and of the list.
+fn feed_refusal(sheet: &[u8], x: Watch, piece: usize, room: usize) -> u32
+    ensures { λ r. ⌜ r ≡ feed-refusal (now (sheet .entry)) x piece room ⌝ }
 {
-    if !is_sheet(buffer) {
+    if !is_sheet(sheet) {
         return 4;
     }
-    if !is_fit(wide(buffer[0]) as u32, x) {
+    if !is_fit(wide(sheet[0]) as u32, x) {
         return 5;
     }
     if room == 0 {
@@ -251,12 +251,12 @@ fn feed_refusal(buffer: &[u8], x: Watch, piece: usize, room: usize) -> u32
     0
 }
 
-// Reads a piece of text with the sheet at the buffer's start: the places are written to the list's start, and the rest of the list is as it was.
-// A refusal answers the watch as it was and changes nothing.
-pub fn feed(buffer: &[u8], watch: Watch, piece: &[u8], places: &mut [u32]) -> Feeding
-    ensures { λ r. ⌜ Feed-says (now (buffer .entry)) watch (now (piece .entry)) r (now (places .entry)) (now (places .exit)) ⌝ }
+// Feeds a piece of text: with a sheet, whatever stands behind it, and the watch answered before. The places (the offsets of occurrences, counted
+// from the opening) are written to the list's start, and the rest of the list stays. A refusal answers the watch as it was and changes nothing.
+pub fn feed(sheet: &[u8], watch: Watch, piece: &[u8], places: &mut [u32]) -> Feeding
+    ensures { λ r. ⌜ Feed-says (now (sheet .entry)) watch (now (piece .entry)) r (now (places .entry)) (now (places .exit)) ⌝ }
 {
-    let refusal = feed_refusal(buffer, watch, piece.len(), places.len());
+    let refusal = feed_refusal(sheet, watch, piece.len(), places.len());
     if refusal != 0 {
         return Feeding {
             watch: watch,
@@ -265,5 +265,5 @@ pub fn feed(buffer: &[u8], watch: Watch, piece: &[u8], places: &mut [u32]) -> Fe
             ending: Ending::Refused(refusal),
         };
     }
-    take_bytes(buffer, watch, piece, places)
+    take_bytes(sheet, watch, piece, places)
 }

@@ -12,13 +12,13 @@ feed-refusal-requires c κs = search needs
 returns : tie.Need-returns
 returns c =
     let a = c .before .before .before .before .before .args in
-    says-refused (a .buffer .now) (a .watch) (a .piece .now) (a .places .now) (c .before .feed-refusal .result)
+    says-refused (a .sheet .now) (a .watch) (a .piece .now) (a .places .now) (c .before .feed-refusal .result)
     (c .before .feed-refusal .ensures) (c .if1 .taken)
 
 take-bytes-requires : tie.Need-take-bytes-requires
 take-bytes-requires c κs =
     let a = c .before .before .before .before .before .before .args in
-    none-refused (a .buffer .now) (a .watch) (length (a .piece .now)) (length (a .places .now))
+    none-refused (a .sheet .now) (a .watch) (length (a .piece .now)) (length (a .places .now))
     (sym (c .before .before .feed-refusal .ensures) ∙ c .before .if1 .left)
 
 same-length : tie.Need-same-length
@@ -27,7 +27,7 @@ same-length c = search needs
 returns-2 : tie.Need-returns-2
 returns-2 c =
     let a = c .before .before .before .before .before .before .before .before .before .args in
-    says-took (a .buffer .now) (a .watch) (a .piece .now) (a .places .now)
+    says-took (a .sheet .now) (a .watch) (a .piece .now) (a .places .now)
     (c .before .before .before .before .before .feed-refusal .result)
     (c .before .before .before .before .before .feed-refusal .ensures) (c .before .before .before .before .if1 .left)
     (c .before .before .take-bytes .result) _ (c .before .before .take-bytes .ensures)
