@@ -1,10 +1,10 @@
+pub mod Places
+pub mod Runs
+pub mod Promises
+pub mod Entries
 pub mod Reading
 pub mod Turns
 pub mod Taking
 pub mod Fitness
 pub mod Refusing
-pub mod Runs
-pub mod Places
-pub mod Promises
-pub mod Entries
 pub mod Samples

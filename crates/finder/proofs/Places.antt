@@ -10,11 +10,17 @@ use lib.ListN.{length, take, drop, length-take, length-drop}
 use lib.Seq.{take-append-le, take-all, take-length, length-take-le}
 use Rattle.words.specs.Words.{member, Every, Rising, ends-with}
 use Rattle.words.proofs.Tests.{by-eq, never-both}
-use Rattle.words.proofs.Lists.{member-head, member-other, member-more, length-snoc, take-drop}
+use Rattle.words.proofs.Lists.{member-nil, member-head, member-other, member-more, length-snoc, take-drop}
 use Rattle.words.proofs.Ends.{ends-is, ends-test}
 use Rattle.finder.specs.Feed.{place-if}
 use Rattle.finder.specs.Machine.{found-at}
 use Rattle.finder.specs.Promise.{places-in}
+
+-- none or one
+pub place-one : (t : Bool) (i : ℕ) → length (place-if t i) ≤ 1
+unfolding place-if
+place-one true i = omega arith
+place-one false i = omega arith
 
 -- ONE MORE END, and a longer text
 places-last : (k e : ℕ) (w ts : List ℕ) →
@@ -51,10 +57,6 @@ unfolding place-if
 every-place P true i ps p q = (p, q)
 every-place P false i ps p q = q
 
-member-none : (i : ℕ) → member i [] ≡ false
-unfolding member
-member-none i = refl
-
 module _ (w ts : List ℕ) where
   ends-fits : (e : ℕ) → ends-with (take e ts) w (length w) ≡ true → length w ≤ e
   ends-fits e t = omega (arith, ends-is (take e ts) w (length w) t .fits, length-take e ts)
@@ -87,7 +89,7 @@ module _ (w ts : List ℕ) where
 
   member-place : (k e i : ℕ) → member i (places-in k e w ts) ≡ true → Place k e i
   unfolding places-in place-if
-  member-place zero e i h = absurd (never-both h (member-none i))
+  member-place zero e i h = absurd (never-both h (member-nil i))
   member-place (suc k) e i h = go (ends-with (take e ts) w (length w)) refl h (λ r. later k e i (member-place k (suc e) i r))
     where
       go : (t : Bool) → ends-with (take e ts) w (length w) ≡ t → member i (place-if t (e - length w) ++ places-in k (suc e) w ts) ≡ true →

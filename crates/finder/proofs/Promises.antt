@@ -1,6 +1,6 @@
 -- The promises about runs, read off the one simulation of Runs.antt. Assumes nothing.
 use mathlib.Core.Path.{_≡_, refl, sym, ap, _∙_}
-use mathlib.Core.Bool.{Bool, true, false, _&&_}
+use mathlib.Core.Bool.{true, _&&_}
 use mathlib.Core.List.{List, [], _∷_, _++_, append-nil}
 use Prim.Native.Nat.{ℕ, _+_, _-_, _*_, _≤_}
 use native.Mathlib.Omega.{arith}
@@ -18,12 +18,12 @@ use Rattle.automaton.proofs.PaperArrows.{step-state}
 use Rattle.automaton.proofs.TotalCeiling.{Running, running-start, running-byte, running-below, running-twice}
 use Rattle.automaton.proofs.ByteCeiling.{byte-below}
 use Rattle.finder.specs.declared.Watch.{Watch}
-use Rattle.finder.specs.Feed.{opened, fit, place-if}
+use Rattle.finder.specs.Feed.{opened, fit}
 use Rattle.finder.specs.Machine.{Machine, no-text, cost-after, found-at, machine-byte, Call, costs, sum}
 use Rattle.finder.specs.Runs.{watch-after, places-over, bytes-over}
 use Rattle.finder.specs.Promise.{Counted, after, Runs-count, Text-taken, Alike-count, places-in, Places-told, Places-right, Places-stand}
 use Rattle.finder.proofs.Runs.{Same, state-nil, same-opened}
-use Rattle.finder.proofs.Places.{places-snoc, places-stand-in}
+use Rattle.finder.proofs.Places.{place-one, places-snoc, places-stand-in}
 
 -- COSTS: one more, and none over the byte ceiling
 costs-snoc : (w bs ts : List ℕ) (c : ℕ) → costs w bs (ts ++ (c ∷ [])) ≡ costs w bs ts ++ (cost-after w (bs ++ ts) c ∷ [])
@@ -53,14 +53,9 @@ unfolding read
 read-snoc w [] c m = refl
 read-snoc w (d ∷ ts) c m = read-snoc w ts c (machine-byte w d m)
 
-one-place : (t : Bool) (i : ℕ) → length (place-if t i) ≤ 1
-unfolding place-if
-one-place true i = omega arith
-one-place false i = omega arith
-
 found-few : (w ts : List ℕ) → length (found-at w ts) ≤ 1
 unfolding found-at
-found-few w ts = one-place (ends-with ts w (length w)) (length ts - length w)
+found-few w ts = place-one (ends-with ts w (length w)) (length ts - length w)
 
 -- what each byte keeps: all that a machine has is told by its text
 pub record Kept (w : List ℕ) (m : Machine) : Type 0 where

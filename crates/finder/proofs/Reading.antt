@@ -6,7 +6,7 @@ use Prim.Native.Nat.{ℕ, suc, _+_, _*_, _-_, _≤_, _<_}
 use native.Mathlib.Numerals.{add-one}
 use native.Mathlib.Omega.{arith}
 use borrow.Author.Tests.{eq-eqb, ne-eqb, lt-ltb, le-ltb}
-use lib.ListN.{length, getD, drop, drop-of-length-le, length-append}
+use lib.ListN.{length, getD, drop, drop-of-length-le}
 use lib.Seq.{drop-cons}
 use Rattle.words.specs.Words.{byte}
 use Rattle.words.proofs.Lists.{every-at}
@@ -14,6 +14,7 @@ use Rattle.automaton.specs.declared.Arrow.the-variants.{Back, Forward, Nothing}
 use Rattle.automaton.specs.Arrows.{label, back-targets, targets-below, step, try-forward, try-back, stepped}
 use Rattle.automaton.proofs.Targets.{target-range}
 use Rattle.codes.specs.Sheet.{sheet, named, in-front}
+use Rattle.codes.proofs.Layouts.{length-next}
 use Rattle.codes.proofs.Sheets.{sheet-first, sheet-code, sheet-count, sheet-target, sheet-holds}
 use Rattle.finder.specs.Inside.{On-sheet}
 
@@ -87,10 +88,6 @@ pub record Scan (bs : List ℕ) (p c m end i cost : ℕ) : Type 0 where
   pub within : cost ≤ length (back-targets (named bs) p)
   pub so-far : stepped (named bs) p c ≡ try-back (drop cost (back-targets (named bs) p)) cost (named bs) p c
 
-below-next : (w : List ℕ) (p : ℕ) → length (targets-below w (suc p)) ≡ length (targets-below w p) + length (back-targets w p)
-unfolding targets-below
-below-next w p = length-append (targets-below w p) (back-targets w p)
-
 -- it starts where the targets of the state below end
 pub scan-start : {bs : List ℕ} (p c m a b : ℕ) → On-sheet bs → 1 ≤ p → p ≤ length (named bs) → m ≡ getD bs 0 0 →
     a ≡ getD bs (m + p) 0 → b ≡ getD bs (m + 1 + p) 0 → b < 256 → Scan bs p c m (2 * m + 2 + b) (2 * m + 2 + a) 0
@@ -103,7 +100,7 @@ scan-start {bs} p c m a b o some ok size start end small =
     let a-is : a ≡ length (targets-below w p) =
     start ∙ ap (λ (k : ℕ). getD bs k 0) prev ∙ read-count bs o (p - 1) (omega arith) ∙ ap (λ (k : ℕ). length (targets-below w k)) last in
     let b-is : b ≡ length (targets-below w (suc p)) = end ∙ ap (λ (k : ℕ). getD bs (k + 1 + p) 0) m-is ∙ read-count bs o p ok in
-    let next = below-next w p in
+    let next = length-next w p in
     record {
       on = o;
       ok = ok;
@@ -144,7 +141,7 @@ module _ {bs : List ℕ} {p c m end i cost : ℕ} (s : Scan bs p c m end i cost)
     scan-room =
         let r = target-in in
         let f = room bs (s .on) p (s .ok) in
-        let next = below-next code p in
+        let next = length-next code p in
         (omega (arith, s .end-is, s .m-is), omega arith)
 
     -- the byte of the code at the target is its label

@@ -1,6 +1,5 @@
 -- What one byte and a run of bytes in state 0 do to a watch and to what is fed after them. Assumes nothing.
 use mathlib.Core.Path.{_≡_, refl, sym, ap, _∙_}
-use mathlib.Core.Bool.{Bool, true, false}
 use mathlib.Core.Logic.{_≢_}
 use mathlib.Core.List.{List, [], _∷_, _++_, append-assoc}
 use Prim.Native.Nat.{ℕ, zero, suc, _+_, _-_, _≤_, _<_}
@@ -27,14 +26,10 @@ use Rattle.codes.specs.Sheet.{named}
 use Rattle.finder.specs.declared.Watch.{Watch}
 use Rattle.finder.specs.Feed.{place-if, reported, with-byte, Fed, fed-more, feed}
 use Rattle.finder.specs.Inside.{Ready, completed, with-step, missed, Skipped, Turning, Turned}
+use Rattle.finder.proofs.Places.{place-one}
 use Rattle.finder.proofs.Reading.{read-code}
 
--- PLACES: none or one
-pub place-one : (t : Bool) (i : ℕ) → length (place-if t i) ≤ 1
-unfolding place-if
-place-one true i = omega arith
-place-one false i = omega arith
-
+-- PLACES
 module _ (m : ℕ) (x : Watch) where
   pub completed-one : x .state ≡ m → completed m x ≡ (x .taken - m) ∷ []
   unfolding completed place-if

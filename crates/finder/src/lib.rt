@@ -13,7 +13,8 @@ use automaton::Step;
 use codes::is_sheet;
 use codes::wide;
 
-// A watch: the automaton's state, the bytes taken since the opening, the places reported, and the labels compared with bytes of the text.
+// A watch (the state of a scan), document 01's p, n, h and c: the automaton's state, the bytes taken since the opening, the places reported,
+// and the labels compared with bytes of the text.
 pub struct Watch {
     pub state: u32,
     pub taken: u32,
