@@ -1,26 +1,23 @@
 -- A run of the entry point is a run of calls: on the sheet of an accepted code, with the watch of a run, only 6 and 7 refuse. Assumes nothing.
 use mathlib.Core.Path.{_≡_, refl, _∙_}
-use mathlib.Core.Bool.{Bool, true, false, _&&_, cond}
+use mathlib.Core.Bool.{true, cond}
 use mathlib.Core.List.{List, [], _∷_, _++_, append-nil, append-assoc}
-use Prim.Native.Nat.{ℕ, zero, suc, _≤_, _<_}
-use native.Mathlib.Omega.{arith}
-use borrow.Author.Tests.{ltb-true, eqb-true}
-use lib.Dec.{ltb, eqb, eqb·suc-zero}
+use Prim.Native.Nat.{ℕ, zero, suc, _≤_}
+use lib.Dec.{eqb, eqb·suc-zero}
 use lib.ListN.{length, take, drop}
 use lib.Seq.{take-at}
-use Rattle.words.proofs.Tests.{and-left, and-right}
 use Rattle.codes.specs.Refusals.{refused-if, first-refusal}
 use Rattle.codes.specs.Codes.{accepted}
-use Rattle.codes.specs.Sheet.{sheet, named, in-front}
+use Rattle.codes.specs.Sheet.{sheet, in-front}
 use Rattle.codes.proofs.Refusals.{accepted-bounds}
 use Rattle.codes.proofs.Sheets.{sheet-named, sheet-begins}
 use Rattle.finder.specs.declared.Watch.{Watch}
-use Rattle.finder.specs.declared.Ending.the-variants.{PieceDone, ListFull}
 use Rattle.finder.specs.Feed.{opened, fit, Fed, feed, ending}
 use Rattle.finder.specs.Machine.{Machine, no-text, Call, call-refusal, machine-call, machine-after}
 use Rattle.finder.specs.Runs.{called}
-use Rattle.finder.specs.Entry.{ending-refusal, ending-full, feed-refusal, answer-by, feed-answer, feed-places, Feed-says, Entered, Run-of, plain, plain-calls, last-watch, written-places, taken-bytes, Refused-right}
-use Rattle.finder.specs.Promise.{after, places-in, Endings-told, Entries-count, Entries-alike}
+use Rattle.finder.specs.Entry.{ending-refusal, feed-refusal, answer-by, feed-answer, feed-places, Feed-says, Entered, Run-of, plain, plain-calls, last-watch, written-places, taken-bytes, Refused-right}
+use Rattle.finder.specs.Promise.{after, places-in, Entries-count, Entries-alike}
+use Rattle.finder.proofs.Endings.{ending-none}
 use Rattle.finder.proofs.Places.{places-stand-in}
 use Rattle.finder.proofs.Runs.{Same, same-start, same-call}
 use Rattle.finder.proofs.Promises.{Kept, kept-start, kept-byte, counted, alike}
@@ -35,36 +32,6 @@ record As-called (w : List ℕ) (x : Watch) (e : Entered) : Type 0 where
 in-front-take : (ps a : List ℕ) → take (length ps) (in-front ps a) ≡ ps
 unfolding in-front
 in-front-take ps a = take-at ps (drop (length ps) a) (length ps) refl
-
--- a feeding that is not refused ends with no number
-ending-none : (cs : List ℕ) (k : ℕ) (f : Fed) → ending-refusal (ending cs k f) ≡ 0
-unfolding ending
-ending-none cs k f = go (eqb (length (f .places)) k && ltb (f .taken) (length cs))
-  where
-    go : (t : Bool) → ending-refusal (cond t ListFull PieceDone) ≡ 0
-    go true = refl
-    go false = refl
-
-full-says : (cs : List ℕ) (k : ℕ) (f : Fed) → ending-full (ending cs k f) ≡ 1 → (length (f .places) ≡ k) × (f .taken < length cs)
-unfolding ending
-full-says cs k f = go (eqb (length (f .places)) k && ltb (f .taken) (length cs)) refl
-  where
-    go : (t : Bool) → (eqb (length (f .places)) k && ltb (f .taken) (length cs)) ≡ t → ending-full (cond t ListFull PieceDone) ≡ 1 →
-        (length (f .places) ≡ k) × (f .taken < length cs)
-    go true t e = (
-      eqb-true (length (f .places)) k (and-left (eqb (length (f .places)) k) (ltb (f .taken) (length cs)) t),
-      ltb-true (f .taken) (length cs) (and-right (eqb (length (f .places)) k) (ltb (f .taken) (length cs)) t),
-    )
-    go false t e = absurd (omega arith)
-
-pub endings-told : Endings-told
-unfolding Endings-told feed-answer answer-by
-endings-told bs x cs k = go (feed-refusal bs x (length cs) k)
-  where
-    go : (n : ℕ) → let r = answer-by n (named bs) cs k x in
-        (ending-refusal (r .ending) ≡ n) × (ending-full (r .ending) ≡ 1 → (r .written ≡ k) × (r .taken < length cs))
-    go zero = (ending-none cs k (feed (named bs) cs k x), full-says cs k (feed (named bs) cs k x))
-    go (suc n) = (refl, λ e. absurd (omega arith))
 
 as-called : (w : List ℕ) (x : Watch) (e : Entered) (n : ℕ) → call-refusal (plain e) (x .taken) ≡ n →
     e .answer ≡ answer-by n w (e .piece) (length (e .list)) x →

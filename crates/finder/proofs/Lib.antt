@@ -1,6 +1,7 @@
 pub mod Places
 pub mod Runs
 pub mod Promises
+pub mod Endings
 pub mod Entries
 pub mod Reading
 pub mod Turns

@@ -10,7 +10,7 @@ use Rattle.automaton.specs.Ceilings.{byte-ceiling, total-ceiling}
 use Rattle.codes.specs.Codes.{accepted}
 use Rattle.codes.specs.Sheet.{sheet}
 use Rattle.finder.specs.declared.Watch.{Watch}
-use Rattle.finder.specs.Feed.{opened, fit, place-if}
+use Rattle.finder.specs.Feed.{opened, fit, place-if, fed, feed}
 use Rattle.finder.specs.Machine.{Machine, no-text, Call, machine-after, costs, sum}
 use Rattle.finder.specs.Runs.{watch-after, places-over, bytes-over}
 use Rattle.finder.specs.Entry.{ending-refusal, ending-full, feed-refusal, feed-answer, Entered, Run-of, plain-calls, last-watch, written-places, taken-bytes, Refused-right}
@@ -71,6 +71,12 @@ Endings-told =
     let r = feed-answer buffer x piece room in
     (ending-refusal (r .ending) ≡ feed-refusal buffer x (length piece) room)
     × (ending-full (r .ending) ≡ 1 → (r .written ≡ room) × (r .taken < length piece))
+
+-- feeding goes on: a piece that is not empty and a list with room take at least one byte; an empty piece changes nothing
+unfoldable pub Feeding-goes-on : Type 0
+Feeding-goes-on =
+    (w piece : List ℕ) (room : ℕ) (x : Watch) →
+    (1 ≤ length piece → 1 ≤ room → 1 ≤ feed w piece room x .taken) × (feed w [] room x ≡ fed x 0 [])
 
 -- THE ENTRY POINTS. What their own answers come to over a run: the third demand, and the second
 pub record Entries-counted (w : List ℕ) (es : List Entered) : Type 0 where
