@@ -7,6 +7,7 @@ use lib.Pow.{pow-mono}
 use borrow.Author.Tests.{lt-ltb, le-ltb}
 use Rattle.words.proofs.Tests.{by-le}
 use Rattle.automaton.specs.Ceilings.{halvings, log2}
+use Rattle.automaton.specs.Promise.{Logarithm-right}
 
 halvings-small : (k m : ℕ) → m < 2 → halvings k m ≡ 0
 unfolding halvings
@@ -44,7 +45,7 @@ by-halving P small large m = go m m (omega arith)
     go (suc k) m l = by-le 2 m (λ (h : 2 ≤ m). large m h (go k (m / 2) (omega arith))) (λ (h : m < 2). small m h)
 
 -- 2 ^ log2 m ≤ m < 2 ^ (1 + log2 m)
-pub log2-low : (m : ℕ) → 1 ≤ m → 2 ^ log2 m ≤ m
+log2-low : (m : ℕ) → 1 ≤ m → 2 ^ log2 m ≤ m
 log2-low =
     by-halving (λ m. 1 ≤ m → 2 ^ log2 m ≤ m)
     (λ m h l. rw (log2-small m h) (omega arith))
@@ -55,6 +56,10 @@ log2-high =
     by-halving (λ m. m < 2 ^ suc (log2 m))
     (λ m h. rw (log2-small m h) (omega arith))
     (λ m h ih. rw (log2-large m h) (omega (arith, ih, two-pow-succ (suc (log2 (m / 2))))))
+
+pub logarithm-right : Logarithm-right
+unfolding Logarithm-right
+logarithm-right m some = (log2-low m some, log2-high m)
 
 pub log2-bound : (m : ℕ) → log2 m ≤ m
 log2-bound =

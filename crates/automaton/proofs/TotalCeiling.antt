@@ -15,68 +15,68 @@ use Rattle.automaton.proofs.FewArrows.{arrows-below, below-zero, below-
 use Rattle.automaton.proofs.Steps.{forward-cases, stepped-cases, step-bounds}
 
 -- what it costs to come from 0 to p by forward arrows
-unfoldable pub walk : (w : List ℕ) → (p : ℕ) → ℕ
-walk w p = arrows-below w p + p
+unfoldable pub forward-cost : (w : List ℕ) → (p : ℕ) → ℕ
+forward-cost w p = arrows-below w p + p
 
--- ONE STEP from p to q: a and z are the walks to p and q, e is what the step costs over them
-settle : (m p q cost a z e : ℕ) → 0 < m → cost + a + 2 * q ≤ 2 * p + z + e → m * e + p + 1 ≤ 2 * m + q → m * (cost + a) + (2 * m - 1) * q ≤ m * z + (2 * m - 1) * suc p
-settle m p q cost a z e pos h l =
+-- ONE STEP from p to q, with the cost of coming there as the potential: a and z are those of p and q, e is what the step costs over them
+amortize : (m p q cost a z e : ℕ) → 0 < m → cost + a + 2 * q ≤ 2 * p + z + e → m * e + p + 1 ≤ 2 * m + q → m * (cost + a) + (2 * m - 1) * q ≤ m * z + (2 * m - 1) * suc p
+amortize m p q cost a z e pos h l =
     let M : ℕ = 2 * m - 1 in
     let twice : M + 1 ≡ 2 * m = omega arith in
     omega (arith, mul-le-mul-left m h, ap (λ (n : ℕ). n * q) twice, ap (λ (n : ℕ). n * p) twice)
 
-abbrev Settled : (w : List ℕ) → (p : ℕ) → Step → Type 0
-Settled w p s = length w * (s .cost + walk w p) + (2 * length w - 1) * s .state ≤ length w * walk w (s .state) + (2 * length w - 1) * suc p
+abbrev Amortized : (w : List ℕ) → (p : ℕ) → Step → Type 0
+Amortized w p s = length w * (s .cost + forward-cost w p) + (2 * length w - 1) * s .state ≤ length w * forward-cost w (s .state) + (2 * length w - 1) * suc p
 
 module _ (w : List ℕ) (p : ℕ) (pos : 0 < length w) (fits : p ≤ length w) where
-  settled-back : (t j : ℕ) → Target w p p (forward w p) t → j ≤ arrows w p → Settled w p (step t j (Back t))
-  unfolding walk
-  settled-back t j u l =
+  amortized-back : (t j : ℕ) → Target w p p (forward w p) t → j ≤ arrows w p → Amortized w p (step t j (Back t))
+  unfolding forward-cost
+  amortized-back t j u l =
       let x = u .source in
       let below : x < p = u .under in
       let f = few w p fits x (u .border) in
       let more = arrows-at-most w p in
       rw (u .is)
-      (settle (length w) p (suc x) j (arrows-below w p + p) (arrows-below w (suc x) + suc x) 1 pos (omega arith) (omega arith))
+      (amortize (length w) p (suc x) j (arrows-below w p + p) (arrows-below w (suc x) + suc x) 1 pos (omega arith) (omega arith))
 
-  settled-forward : p < length w → Settled w p (step (suc p) (suc (arrows w p)) Forward)
-  unfolding walk
-  settled-forward inside =
-      settle (length w) p (suc p) (suc (arrows w p)) (arrows-below w p + p) (arrows-below w (suc p) + suc p) 2 pos (omega (arith, below-suc w p)) (omega arith)
+  amortized-forward : p < length w → Amortized w p (step (suc p) (suc (arrows w p)) Forward)
+  unfolding forward-cost
+  amortized-forward inside =
+      amortize (length w) p (suc p) (suc (arrows w p)) (arrows-below w p + p) (arrows-below w (suc p) + suc p) 2 pos (omega (arith, below-suc w p)) (omega arith)
 
-  settled-none : (j e : ℕ) → j ≤ e + arrows w p → length w * e + p + 1 ≤ 2 * length w → Settled w p (step 0 j Nothing)
-  unfolding walk
-  settled-none j e l fit =
+  amortized-none : (j e : ℕ) → j ≤ e + arrows w p → length w * e + p + 1 ≤ 2 * length w → Amortized w p (step 0 j Nothing)
+  unfolding forward-cost
+  amortized-none j e l fit =
       let few : arrows-below w (suc p) ≤ p = unfold arrows-below in few-below w p fits in
-      settle (length w) p 0 j (arrows-below w p + p) (arrows-below w 0 + 0) e pos (omega (arith, below-suc w p, below-zero w)) (omega arith)
+      amortize (length w) p 0 j (arrows-below w p + p) (arrows-below w 0 + 0) e pos (omega (arith, below-suc w p, below-zero w)) (omega arith)
 
-  pub one-step : (c : ℕ) → Settled w p (stepped w p c)
+  pub one-step : (c : ℕ) → Amortized w p (stepped w p c)
   one-step c =
-      stepped-cases (Settled w p) (Target w p p (forward w p)) w p c (back-range w p) settled-back
-      (forward-cases (arrows w p) w p c (Settled w p)
-      (λ l e. settled-forward l)
-      (λ l. settled-none (suc (arrows w p)) 1 (omega arith) (omega arith))
-      (λ l. settled-none (arrows w p) 0 (omega arith) (omega arith)))
+      stepped-cases (Amortized w p) (Target w p p (forward w p)) w p c (back-range w p) amortized-back
+      (forward-cases (arrows w p) w p c (Amortized w p)
+      (λ l e. amortized-forward l)
+      (λ l. amortized-none (suc (arrows w p)) 1 (omega arith) (omega arith))
+      (λ l. amortized-none (arrows w p) 0 (omega arith) (omega arith)))
 
--- the walk itself is below the ceiling
-settle-walk : (m p a : ℕ) → p ≤ m → a + 1 ≤ 2 * p → m * a ≤ (2 * m - 1) * p
-settle-walk m p a l h =
+-- that cost itself is below the ceiling
+amortize-forward : (m p a : ℕ) → p ≤ m → a + 1 ≤ 2 * p → m * a ≤ (2 * m - 1) * p
+amortize-forward m p a l h =
     let M : ℕ = 2 * m - 1 in
     let twice : M + 1 ≡ 2 * m = omega arith in
     omega (arith, mul-le-mul-left m h, ap (λ (n : ℕ). n * p) twice)
 
-pub walk-below : (w : List ℕ) (p : ℕ) → p ≤ length w → length w * walk w p ≤ (2 * length w - 1) * p
-unfolding walk
-walk-below w zero fits = let none : arrows-below w 0 + 0 ≡ 0 = omega (arith, below-zero w) in rw none (omega arith)
-walk-below w (suc r) fits =
+pub forward-cost-below : (w : List ℕ) (p : ℕ) → p ≤ length w → length w * forward-cost w p ≤ (2 * length w - 1) * p
+unfolding forward-cost
+forward-cost-below w zero fits = let none : arrows-below w 0 + 0 ≡ 0 = omega (arith, below-zero w) in rw none (omega arith)
+forward-cost-below w (suc r) fits =
     let few : arrows-below w (suc r) ≤ r = unfold arrows-below in few-below w r (omega arith) in
-    settle-walk (length w) (suc r) (arrows-below w (suc r) + suc r) fits (omega arith)
+    amortize-forward (length w) (suc r) (arrows-below w (suc r) + suc r) fits (omega arith)
 
 -- A RUN: in state p after n bytes that cost k comparisons
 pub record Running (w : List ℕ) (n p k : ℕ) : Type 0 where
   pub state : p ≤ length w
   pub reached : p ≤ n
-  pub total : length w * k + (2 * length w - 1) * p ≤ length w * walk w p + (2 * length w - 1) * n
+  pub total : length w * k + (2 * length w - 1) * p ≤ length w * forward-cost w p + (2 * length w - 1) * n
 
 pub running-start : (w : List ℕ) → Running w 0 0 0
 running-start w = record { state = omega arith; reached = omega arith; total = omega arith }
@@ -90,10 +90,10 @@ running-byte w n p k c pos h =
 pub running-below : (w : List ℕ) (n p k : ℕ) → 1 ≤ length w → Running w n p k → k ≤ total-ceiling (length w) n
 unfolding total-ceiling
 running-below w n p k pos h =
-    le-div-iff-mul-le {x = k} pos .1 (omega (arith, h .total, walk-below w p (h .state)))
+    le-div-iff-mul-le {x = k} pos .1 (omega (arith, h .total, forward-cost-below w p (h .state)))
 
 pub running-twice : (w : List ℕ) (n p k : ℕ) → 1 ≤ length w → Running w n p k → k ≤ 2 * n
 running-twice w n p k pos h =
     let m = length w in
     let twice : (2 * m - 1) + 1 ≡ 2 * m = omega arith in
-    le-of-mul-le-mul-left {m = k} {n = 2 * n} {k = m} (omega (arith, h .total, walk-below w p (h .state), ap (λ (j : ℕ). j * n) twice)) pos
+    le-of-mul-le-mul-left {m = k} {n = 2 * n} {k = m} (omega (arith, h .total, forward-cost-below w p (h .state), ap (λ (j : ℕ). j * n) twice)) pos

@@ -3,11 +3,11 @@ use mathlib.Core.Path.{_≡_}
 use mathlib.Core.Bool.{true}
 use mathlib.Core.List.{List, [], _∷_, _++_}
 use mathlib.Core.Logic.{_↔_}
-use Prim.Native.Nat.{ℕ, _≤_}
+use Prim.Native.Nat.{ℕ, suc, _^_, _≤_, _<_}
 use lib.ListN.{length, take}
 use Rattle.words.specs.Words.{member, Falling, state-of}
 use Rattle.automaton.specs.Arrows.{back-targets, back-arrows, stepped, arrow-to}
-use Rattle.automaton.specs.Ceilings.{byte-ceiling}
+use Rattle.automaton.specs.Ceilings.{log2, byte-ceiling}
 
 -- THE PAPER'S ARROWS. An arrow (p, a, q) leads from the first p bytes on byte a to the longest start that they, followed by a, end with
 unfoldable pub leads-to : (w : List ℕ) → (p a : ℕ) → ℕ
@@ -37,6 +37,10 @@ Targets-fall = (w : List ℕ) (p : ℕ) → Falling (back-targets w p)
 -- no code has more backward arrows than bytes
 unfoldable pub Few-arrows : Type 0
 Few-arrows = (w : List ℕ) → back-arrows w ≤ length w
+
+-- the ceiling's logarithm is the logarithm rounded down
+unfoldable pub Logarithm-right : Type 0
+Logarithm-right = (m : ℕ) → 1 ≤ m → (2 ^ log2 m ≤ m) × (m < 2 ^ suc (log2 m))
 
 -- no byte costs more than the byte ceiling, in any state
 unfoldable pub Byte-below : Type 0

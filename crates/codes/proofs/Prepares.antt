@@ -15,7 +15,7 @@ use Rattle.automaton.proofs.FewArrows.{few-below}
 use Rattle.codes.specs.declared.Filled.{Filled}
 use Rattle.codes.specs.Codes.{longest-code}
 use Rattle.codes.specs.Sheet.{counts-below, layout, sheet, sheet-room, in-front}
-use Rattle.codes.specs.Inside.{Fits-in, Filling, header, Filled-to, State-ready, State-made}
+use Rattle.codes.specs.Inside.{Fits-in, Filling, header, Filled-to, State-ready, State-made, States-made, Sheet-made}
 use Rattle.codes.proofs.Layouts.{length-next, numbers-bytes}
 use Rattle.codes.proofs.Sheets.{length-sheet}
 use Rattle.codes.proofs.Fillings.{fill-none, fill-self, fill-on, put-front, fill-done}
@@ -102,10 +102,10 @@ module _ {w a b : List ℕ} {r : ℕ} {f : Filled} (s : Filling-states w a b r f
           border-is = λ h. u .border-is ∙ sym (dropped-is w r (s .some) h);
         })
 
-  pub states-done : length w < r → (f .stored ≡ length (targets-below w (suc (length w)))) × Filled-to w (suc (length w)) a b
+  pub states-done : length w < r → States-made w (f .stored) a b
   states-done l =
       let e : r ≡ suc (length w) = omega (arith, s .ok) in
-      (s .stored-is ∙ ap (λ (z : ℕ). length (targets-below w z)) e, rw e at (s .filling))
+      record { stored-is = s .stored-is ∙ ap (λ (z : ℕ). length (targets-below w z)) e; filling = rw e at (s .filling) }
 
 -- THE SHEET: code, state 0, then the others
 sheet-parts : (w : List ℕ) → header w (suc (length w)) ++ targets-below w (suc (length w)) ≡ sheet w
@@ -120,17 +120,19 @@ module _ {w a b : List ℕ} (s : Fits-in w a) (f : Filling (2 * length w + 2) (l
   pub then-states : Fits-in w (set b (length w + 1) 0) × Filled-to w 1 (set b (length w + 1) 0) (set b (length w + 1) 0)
   then-states = (record { some = s .some; few = s .few; room = omega (arith, s .room, first .long) }, fill-self first)
 
-  module _ {d : List ℕ} (g : Filled-to w (suc (length w)) (set b (length w + 1) 0) d) where
+  module _ {d : List ℕ} {n : ℕ} (g : States-made w n (set b (length w + 1) 0) d) where
     whole : Filled-to w (suc (length w)) a d
-    whole = fill-on first g (omega (arith, ap length (none-below w)))
+    whole = fill-on first (g .filling) (omega (arith, ap length (none-below w)))
 
     pub same-size : length d ≡ length a
     same-size = whole .long
 
-    pub sheet-made : (n : ℕ) → n ≡ length (targets-below w (suc (length w))) →
-        (2 * length w + 2 + n ≡ length (sheet w)) × (d ≡ in-front (sheet w) a)
+    pub sheet-made : Sheet-made w (2 * length w + 2 + n) a d
     unfolding back-arrows
-    sheet-made n e = (
-      omega (arith, length-sheet w),
-      fill-done whole (omega (arith, length-header w (suc (length w)))) ∙ ap (λ (bs : List ℕ). in-front bs a) (sheet-parts w),
-    )
+    sheet-made =
+        record {
+          size-is = omega (arith, length-sheet w, g .stored-is);
+          front =
+              fill-done whole (omega (arith, length-header w (suc (length w))))
+              ∙ ap (λ (bs : List ℕ). in-front bs a) (sheet-parts w);
+        }

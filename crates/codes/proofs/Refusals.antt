@@ -89,7 +89,3 @@ code-bounds w e = length-bounds (length w) e
 pub accepted-bounds : (w : List ℕ) → accepted w ≡ true → (1 ≤ length w) × (length w ≤ longest-code)
 unfolding accepted
 accepted-bounds w e = code-bounds w (eqb-true (code-refusal w) 0 e)
-
-pub bounds-accepted : (w : List ℕ) → 1 ≤ length w → length w ≤ longest-code → accepted w ≡ true
-unfolding accepted code-refusal
-bounds-accepted w l h = eq-eqb (length-refusal (length w)) 0 (length-good (length w) l h)

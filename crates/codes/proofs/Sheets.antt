@@ -74,9 +74,6 @@ module _ (w rest : List ℕ) where
       byte-at (sheet w ++ rest) (length (m ∷ []) + m + p * 1) (m + 1 + p) (length (targets-below w (suc p))) (omega arith)
       (layout-count 0 (m ∷ []) w rest p h)
 
-  pub sheet-start : (p : ℕ) → p ≤ m → start-of (sheet w ++ rest) m p ≡ length (targets-below w p)
-  sheet-start p h = start-is (sheet w ++ rest) w p (λ q l. sheet-count q (omega arith))
-
   pub sheet-target : (p j : ℕ) → p ≤ m → j < length (back-targets w p) →
       getD (sheet w ++ rest) (2 * m + 2 + length (targets-below w p) + j) 0 ≡ getD (back-targets w p) j 0
   unfolding sheet

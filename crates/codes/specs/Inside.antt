@@ -2,7 +2,7 @@
 use mathlib.Core.Path.{_≡_}
 use mathlib.Core.Bool.{cond}
 use mathlib.Core.List.{List, _∷_, _++_}
-use Prim.Native.Nat.{ℕ, suc, _+_, _*_, _≤_}
+use Prim.Native.Nat.{ℕ, suc, _+_, _*_, _≤_, _<_}
 use lib.Dec.{eqb}
 use lib.ListN.{length, getD, set, take, drop}
 use Rattle.words.specs.Words.{border-of}
@@ -10,7 +10,7 @@ use Rattle.automaton.specs.Arrows.{targets-below}
 use Rattle.automaton.specs.Preparing.{candidates, drops, dropped}
 use Rattle.codes.specs.declared.Filled.{Filled}
 use Rattle.codes.specs.Codes.{longest-code}
-use Rattle.codes.specs.Sheet.{counts-below, sheet-room}
+use Rattle.codes.specs.Sheet.{counts-below, sheet, sheet-room, in-front}
 
 -- where the stored targets of state p start, counted from the first target, in a buffer with a code of m bytes
 unfoldable pub start-of : (buffer : List ℕ) → (m p : ℕ) → ℕ
@@ -37,6 +37,14 @@ header w r = (length w ∷ w) ++ counts-below w r
 abbrev pub Filled-to : (w : List ℕ) → (r : ℕ) → (a b : List ℕ) → Type 0
 Filled-to w r a b = Filling (2 * length w + 2) (header w r) (targets-below w r) a b
 
+-- a target t of state r can be put behind those stored
+pub record Target-ready (w b : List ℕ) (r t stored : ℕ) : Type 0 where
+  pub some : 1 ≤ t
+  pub inside : t ≤ length w
+  pub ok : r ≤ length w
+  pub few : length w ≤ longest-code
+  pub room : 2 * length w + 2 + stored < length b
+
 -- one target put: stored, or kept back as the next state's longest border where it has r's forward label
 unfoldable pub put-result : (w : List ℕ) → (r t : ℕ) → Filled → Filled
 put-result w r t f =
@@ -59,3 +67,13 @@ pub record State-made (w : List ℕ) (r : ℕ) (f : Filled) (a b : List ℕ) : T
   pub filling : Filling (2 * length w + 2) (header w r) (targets-below w (suc r)) a b
   pub stored-is : f .stored ≡ length (targets-below w (suc r))
   pub border-is : f .border ≡ dropped w r 0 (candidates w r)
+
+-- all states are there, and so many targets
+pub record States-made (w : List ℕ) (stored : ℕ) (a b : List ℕ) : Type 0 where
+  pub stored-is : stored ≡ length (targets-below w (suc (length w)))
+  pub filling : Filled-to w (suc (length w)) a b
+
+-- the whole sheet is there, and so many bytes
+pub record Sheet-made (w : List ℕ) (size : ℕ) (a b : List ℕ) : Type 0 where
+  pub size-is : size ≡ length (sheet w)
+  pub front : b ≡ in-front (sheet w) a

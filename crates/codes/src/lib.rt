@@ -2,15 +2,14 @@
 // Preparing follows the rule of Hancart's figure 5, each state's arrows from those of its longest border, and takes a number of steps linear in the code's length.
 ghost use mathlib.Core.Path.{_≡_};
 ghost use mathlib.Core.List.{[], _∷_};
-ghost use Prim.Native.Nat.{suc, _+_, _*_, _-_, _≤_, _<_};
+ghost use Prim.Native.Nat.{_+_, _*_, _-_, _≤_, _<_};
 ghost use lib.ListN.{length, getD, take, drop};
 ghost use Rattle.words.specs.Words.{member, same};
-ghost use Rattle.automaton.specs.Arrows.{targets-below};
 ghost use Rattle.automaton.specs.Ceilings.{log2, different};
 ghost use Rattle.codes.specs.Codes.{longest-code, length-refusal, code-refusal};
-ghost use Rattle.codes.specs.Sheet.{sheet, begins, in-front};
+ghost use Rattle.codes.specs.Sheet.{sheet, begins};
 ghost use Rattle.codes.specs.Entry.{prepare-answer, prepare-buffer, byte-answer, total-answer};
-ghost use Rattle.codes.specs.Inside.{start-of, Fits-in, Filling, Filled-to, put-result, put-buffer, State-ready, State-made};
+ghost use Rattle.codes.specs.Inside.{start-of, Fits-in, Filling, Filled-to, Target-ready, put-result, put-buffer, State-ready, State-made, States-made, Sheet-made};
 
 // The longest code that is accepted.
 pub const LONGEST: u32 = 255;
@@ -142,7 +141,7 @@ struct Filled {
 
 // One target for state r: stored, or kept back as the next state's longest border where it has r's forward label.
 fn put_target(code: &[u8], buffer: &mut [u8], f: Filled, t: usize, r: usize) -> Filled
-    requires { ⌜ (1 ≤ t) × (t ≤ length (now code)) × (r ≤ length (now code)) × (length (now code) ≤ longest-code) × (2 * length (now code) + 2 + f .stored < length (now buffer)) ⌝ }
+    requires { ⌜ Target-ready (now code) (now buffer) r t (f .stored) ⌝ }
     ensures { λ x. ⌜ (x ≡ put-result (now (code .entry)) r t f) × (now (buffer .exit) ≡ put-buffer (now (code .entry)) r t f (now (buffer .entry))) ⌝ }
 {
     let m = code.len();
@@ -205,7 +204,7 @@ fn fill_code(code: &[u8], buffer: &mut [u8])
 // The counts and targets of the states from 1 on; the number of targets.
 fn fill_states(code: &[u8], buffer: &mut [u8]) -> usize
     requires { ⌜ Fits-in (now code) (now buffer) × Filled-to (now code) 1 (now buffer) (now buffer) ⌝ }
-    ensures { λ x. ⌜ (x ≡ length (targets-below (now (code .entry)) (suc (length (now (code .entry)))))) × Filled-to (now (code .entry)) (suc (length (now (code .entry)))) (now (buffer .entry)) (now (buffer .exit)) ⌝ }
+    ensures { λ x. ⌜ States-made (now (code .entry)) x (now (buffer .entry)) (now (buffer .exit)) ⌝ }
 {
     let m = code.len();
     let mut f = Filled {
@@ -224,7 +223,7 @@ fn fill_states(code: &[u8], buffer: &mut [u8]) -> usize
 // The whole sheet, into a buffer with room for it; the number of its bytes.
 fn fill(code: &[u8], buffer: &mut [u8]) -> usize
     requires { ⌜ Fits-in (now code) (now buffer) ⌝ }
-    ensures { λ x. ⌜ (x ≡ length (sheet (now (code .entry)))) × (now (buffer .exit) ≡ in-front (sheet (now (code .entry))) (now (buffer .entry))) ⌝ }
+    ensures { λ x. ⌜ Sheet-made (now (code .entry)) x (now (buffer .entry)) (now (buffer .exit)) ⌝ }
 {
     fill_code(code, buffer);
     let m = code.len();

@@ -11,7 +11,7 @@ use borrow.Author.Tests.{ltb-true, lt-ltb}
 use Rattle.words.specs.Words.{byte, ends-with, is-border, border-of}
 use Rattle.words.proofs.Tests.{and-left, and-right, and-both, same-test}
 use Rattle.words.proofs.Lists.{take-drop}
-use Rattle.words.proofs.Ends.{Ends, ends-is, ends-test, ends-zero, ends-within, ends-without, ends-longer, ends-shorter, ends-label}
+use Rattle.words.proofs.Ends.{Ends, ends-is, ends-test, ends-zero, ends-within, ends-without, ends-shorter}
 use Rattle.words.proofs.Largest.{Largest, largest-is}
 
 -- b is a border of the first p bytes of w
@@ -52,26 +52,12 @@ border-below w p x a y h =
     (λ e. border-test w x y (border-lower w p x y a (border-is w p y e) h))
     (λ e. border-test w p y (border-trans w p x y a (border-is w x y e)))
 
--- ONE BYTE MORE: a border of p + 1 is a border of p with byte p behind it
-module _ (w : List ℕ) (p x : ℕ) (inside : p < length w) where
-  pub border-prev : Border w (suc p) (suc x) → Border w p x
-  unfolding byte
-  border-prev a =
-      let h : suc x < suc p = a .below in
-      record { below = omega arith; ends = ends-shorter (take p w) w (byte w p) x (rw (take-suc w p 0 inside) at (a .ends)) }
-
-  pub border-label : Border w (suc p) (suc x) → byte w x ≡ byte w p
-  unfolding byte
-  border-label a = ends-label (take p w) w (byte w p) x (rw (take-suc w p 0 inside) at (a .ends))
-
-  pub border-next : Border w p x → byte w x ≡ byte w p → Border w (suc p) (suc x)
-  unfolding byte
-  border-next a e =
-      let h : x < p = a .below in
-      record {
-        below = omega arith;
-        ends = rw (take-suc w p 0 inside) (ends-longer (take p w) w (byte w p) x (a .ends) (omega arith) e);
-      }
+-- one byte less of a border of p + 1 is a border of p
+pub border-prev : (w : List ℕ) (p x : ℕ) → p < length w → Border w (suc p) (suc x) → Border w p x
+unfolding byte
+border-prev w p x inside a =
+    let h : suc x < suc p = a .below in
+    record { below = omega arith; ends = ends-shorter (take p w) w (byte w p) x (rw (take-suc w p 0 inside) at (a .ends)) }
 
 -- THE LONGEST border
 pub longest-is : (w : List ℕ) (p : ℕ) → 0 < p → Largest (Border w p) (p - 1) (border-of w p)

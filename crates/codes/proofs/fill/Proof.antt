@@ -33,18 +33,17 @@ add-result-2 : tie.Need-add-result-2
 add-result-2 c =
     let s = c .before .before .before .before .before .before .before .before .before .before in
     let w = s .args .code .now in
-    omega (arith, s .pre .few, c .before .before .fill-states .ensures .0, few-below w (length w) (le-refl (length w)))
+    omega (arith, s .pre .few, c .before .before .fill-states .ensures .stored-is, few-below w (length w) (le-refl (length w)))
 
 same-length : tie.Need-same-length
 same-length c =
     same-size (c .before .before .before .before .before .before .before .before .before .before .pre) (c .before .before .before .before .before .before .fill-code .ensures)
-    (c .before .before .fill-states .ensures .1)
+    (c .before .before .fill-states .ensures)
 
 returns : tie.Need-returns
 returns c =
-    let e = c .before .before .fill-states .ensures in
     sheet-made (c .before .before .before .before .before .before .before .before .before .before .pre)
-    (c .before .before .before .before .before .before .fill-code .ensures) (e .1) (c .before .before .fill-states .result) (e .0)
+    (c .before .before .before .before .before .before .fill-code .ensures) (c .before .before .fill-states .ensures)
 
 pub fill-spec : {M : Type 1} → statement M
 fill-spec =

@@ -66,7 +66,7 @@ add-put-target c = let s = c .before .before .before .before .before .before .be
 put-target-requires : tie.Need-put-target-requires Inv-loop μ-loop
 put-target-requires c κs =
     let s = c .before .before .before .before .before .before .before .pre in
-    (omega arith, omega (arith, s .ok, border-below s), s .ok, s .fits .few, first-room s)
+    record { some = omega arith; inside = omega (arith, s .ok, border-below s); ok = s .ok; few = s .fits .few; room = first-room s }
 
 loop-holds : tie.Need-loop-holds Inv-loop μ-loop
 loop-holds c =
@@ -89,7 +89,7 @@ put-target-requires-2 c κs =
     let l = c .before .before .before .loop-test .taken in
     let u = next-ok s x l in
     let e = c .before .wide .ensures .0 in
-    (omega arith, omega arith, s .ok, s .fits .few, next-room s x l)
+    record { some = omega arith; inside = omega arith; ok = s .ok; few = s .fits .few; room = next-room s x l }
 
 add-i-3 : tie.Need-add-i-3 Inv-loop μ-loop
 add-i-3 c =

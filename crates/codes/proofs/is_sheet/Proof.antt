@@ -50,7 +50,7 @@ slice-aggregate-same-front : tie.Need-slice-aggregate-same-front
 slice-aggregate-same-front c = search needs
 
 same-front-requires : tie.Need-same-front-requires
-same-front-requires c κs = let f = c .before .before .fill in in-front-long _ _ (f .last .1 .0) (f .result) (f .ensures .0) (f .ensures .1)
+same-front-requires c κs = let f = c .before .before .fill in in-front-long _ _ (f .last .1 .0) (f .result) (f .ensures .size-is) (f .ensures .front)
 
 returns-4 : tie.Need-returns-4
 returns-4 c =
@@ -59,7 +59,7 @@ returns-4 c =
     let r = c .before .before .before .before .before .before .code-refusal in
     c .same-front .ensures
     ∙ compared (c .before .before .before .before .before .before .before .before .before .before .before .before .before .args .buffer .now)
-    _ (v .result) (v .ensures .0) refl _ (f .last .1 .0) (f .result) (sym (r .ensures) ∙ c .before .before .before .before .before .if3 .left) (f .ensures .0) (f .ensures .1)
+    _ (v .result) (v .ensures .0) refl _ (f .last .1 .0) (f .result) (sym (r .ensures) ∙ c .before .before .before .before .before .if3 .left) (f .ensures .size-is) (f .ensures .front)
 
 pub is-sheet-spec : {M : Type 1} → statement M
 is-sheet-spec =

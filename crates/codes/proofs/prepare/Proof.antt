@@ -44,7 +44,7 @@ returns-3 c =
     let a = c .before .before .before .before .before .before .before .before .before .args in
     let f = c .before .before .fill in
     prepared (a .code .now) (a .buffer .now) (none (c .before .before .before .before .before)) (c .before .before .before .before .if2 .left)
-    (f .result) (f .last .1 .0) (f .ensures .0) (f .ensures .1)
+    (f .result) (f .last .1 .0) (f .ensures .size-is) (f .ensures .front)
 
 pub prepare-spec : {M : Type 1} → statement M
 prepare-spec =
