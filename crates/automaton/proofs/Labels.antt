@@ -175,10 +175,16 @@ labelled-largest w p a fits =
     (ih (omega arith) m))
 
 -- so to see the label of a border takes one target out
-pub seen-one : (w : List ℕ) (p a : ℕ) → p ≤ length w → (b : ℕ) (ls : List ℕ) → b ≤ p → (y : ℕ) → y < b → Border w p y → byte w y ≡ a → member a ls ≡ false →
+pub seen-one : (w : List ℕ) (p a : ℕ) → p ≤ length w → (b : ℕ) (ls : List ℕ) → b ≤ p → (y : ℕ) → y < b → Border w p y → byte w y ≡ a →
+    member a ls ≡ false →
     length (targets-from b w p ls) ≡ suc (length (targets-from b w p (a ∷ ls)))
 seen-one w p a fits b ls h y lt border e m =
-    omega (arith, labelled-counts w p a b ls, ap length (targets-unlabelled w p (a ∷ []) b ls), some (labelled w a 0 (targets-from b w p ls)) (labelled-largest w p a fits b ls h m))
+    omega (
+      arith,
+      labelled-counts w p a b ls,
+      ap length (targets-unlabelled w p (a ∷ []) b ls),
+      some (labelled w a 0 (targets-from b w p ls)) (labelled-largest w p a fits b ls h m),
+    )
   where
     some : (q : ℕ) → Largest (Led w p a) b q → one-if q ≡ 1
     some zero u = absurd (u .none (suc y) (omega arith) (omega arith) (ends-longer (take p w) w a y (border .ends) (omega arith) e))

@@ -146,7 +146,8 @@ unfolding Steps-right
 steps-right w p c fits = (step-leads w p c fits, step-kind w p c)
 
 -- a listed target is found by its own label, since no other listed target has it
-found-by-label : (w : List ℕ) (p b : ℕ) (ls : List ℕ) (t : ℕ) → member t (targets-from b w p ls) ≡ true → labelled w (label w t) 0 (targets-from b w p ls) ≡ t
+found-by-label : (w : List ℕ) (p b : ℕ) (ls : List ℕ) (t : ℕ) → member t (targets-from b w p ls) ≡ true →
+    labelled w (label w t) 0 (targets-from b w p ls) ≡ t
 found-by-label w p =
     targets-ind w p (λ b ls ts. (t : ℕ) → member t ts ≡ true → labelled w (label w t) 0 ts ≡ t)
     (λ ls t m. absurd (never-both m (member-nil t)))

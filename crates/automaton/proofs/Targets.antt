@@ -34,8 +34,10 @@ module _ (w : List ℕ) (p b : ℕ) (ls : List ℕ) where
 -- INDUCTION over the borders below a bound
 module _ (w : List ℕ) (p : ℕ) (Q : (b : ℕ) → (seen targets : List ℕ) → Type 0)
     (none : (ls : List ℕ) → Q 0 ls [])
-    (new : (b : ℕ) (ls : List ℕ) → Border w p b → member (byte w b) ls ≡ false → Q b (byte w b ∷ ls) (targets-from b w p (byte w b ∷ ls)) → Q (suc b) ls (suc b ∷ targets-from b w p (byte w b ∷ ls)))
-    (old : (b : ℕ) (ls : List ℕ) → (Border w p b → member (byte w b) ls ≡ true) → Q b ls (targets-from b w p ls) → Q (suc b) ls (targets-from b w p ls)) where
+    (new : (b : ℕ) (ls : List ℕ) → Border w p b → member (byte w b) ls ≡ false →
+    Q b (byte w b ∷ ls) (targets-from b w p (byte w b ∷ ls)) → Q (suc b) ls (suc b ∷ targets-from b w p (byte w b ∷ ls)))
+    (old : (b : ℕ) (ls : List ℕ) → (Border w p b → member (byte w b) ls ≡ true) →
+    Q b ls (targets-from b w p ls) → Q (suc b) ls (targets-from b w p ls)) where
   pub targets-ind : (b : ℕ) (ls : List ℕ) → Q b ls (targets-from b w p ls)
   unfolding targets-from
   targets-ind zero ls = none ls
@@ -100,7 +102,8 @@ module _ (w : List ℕ) (p : ℕ) where
       (λ b ls f all. all)
 
 -- only membership counts of the labels seen
-pub targets-members : (b : ℕ) (w : List ℕ) (p : ℕ) (ls ms : List ℕ) → ((x : ℕ) → member x ls ≡ member x ms) → targets-from b w p ls ≡ targets-from b w p ms
+pub targets-members : (b : ℕ) (w : List ℕ) (p : ℕ) (ls ms : List ℕ) → ((x : ℕ) → member x ls ≡ member x ms) →
+    targets-from b w p ls ≡ targets-from b w p ms
 unfolding targets-from member
 targets-members zero w p ls ms h = refl
 targets-members (suc b) w p ls ms h =
@@ -109,7 +112,8 @@ targets-members (suc b) w p ls ms h =
     rw (h (byte w b), one, two)
 
 -- where the borders below b are the same, so are the targets
-pub targets-alike : (b : ℕ) (w : List ℕ) (p q : ℕ) (ls : List ℕ) → ((y : ℕ) → y < b → is-border w p y ≡ is-border w q y) → targets-from b w p ls ≡ targets-from b w q ls
+pub targets-alike : (b : ℕ) (w : List ℕ) (p q : ℕ) (ls : List ℕ) → ((y : ℕ) → y < b → is-border w p y ≡ is-border w q y) →
+    targets-from b w p ls ≡ targets-from b w q ls
 unfolding targets-from
 targets-alike zero w p q ls h = refl
 targets-alike (suc b) w p q ls h =
@@ -117,7 +121,8 @@ targets-alike (suc b) w p q ls h =
     rw (h b (omega arith), ih (byte w b ∷ ls), ih ls)
 
 -- where no border lies from b to k, the targets below k are those below b
-pub targets-down : (k b : ℕ) (w : List ℕ) (p : ℕ) (ls : List ℕ) → b ≤ k → ((y : ℕ) → b ≤ y → y < k → Border w p y → ⊥) → targets-from k w p ls ≡ targets-from b w p ls
+pub targets-down : (k b : ℕ) (w : List ℕ) (p : ℕ) (ls : List ℕ) → b ≤ k → ((y : ℕ) → b ≤ y → y < k → Border w p y → ⊥) →
+    targets-from k w p ls ≡ targets-from b w p ls
 targets-down zero b w p ls l h = let e : 0 ≡ b = omega arith in ap (λ (n : ℕ). targets-from n w p ls) e
 targets-down (suc k) b w p ls l h =
     by-test (eqb (suc k) b)

@@ -19,7 +19,8 @@ unfoldable pub forward-cost : (w : List ℕ) → (p : ℕ) → ℕ
 forward-cost w p = arrows-below w p + p
 
 -- ONE STEP from p to q, with the cost of coming there as the potential: a and z are those of p and q, e is what the step costs over them
-amortize : (m p q cost a z e : ℕ) → 0 < m → cost + a + 2 * q ≤ 2 * p + z + e → m * e + p + 1 ≤ 2 * m + q → m * (cost + a) + (2 * m - 1) * q ≤ m * z + (2 * m - 1) * suc p
+amortize : (m p q cost a z e : ℕ) → 0 < m → cost + a + 2 * q ≤ 2 * p + z + e → m * e + p + 1 ≤ 2 * m + q →
+    m * (cost + a) + (2 * m - 1) * q ≤ m * z + (2 * m - 1) * suc p
 amortize m p q cost a z e pos h l =
     let M : ℕ = 2 * m - 1 in
     let twice : M + 1 ≡ 2 * m = omega arith in

@@ -33,7 +33,8 @@ pub record Taking (bs : List ℕ) (x₀ : Watch) (piece ps₀ : List ℕ) (m : �
   pub tail : drop k ps ≡ drop k ps₀
   pub so-far : feed (named bs) piece (length ps₀) x₀ ≡ fed-more i (take k ps) (feed (named bs) (drop i piece) (length ps₀ - k) x)
 
-pub taking-start : {bs : List ℕ} {x : Watch} {piece ps : List ℕ} (m : ℕ) → On-sheet bs → Ready (length (named bs)) x (length piece) → m ≡ length (named bs) →
+pub taking-start : {bs : List ℕ} {x : Watch} {piece ps : List ℕ} (m : ℕ) → On-sheet bs → Ready (length (named bs)) x (length piece) →
+    m ≡ length (named bs) →
     Taking bs x piece ps m x 0 0 ps
 taking-start {bs} {x} {piece} {ps} m o r e =
     record {

@@ -54,7 +54,8 @@ unfolding Byte-below byte-ceiling
 step-cheap w p c fits few =
     omega (arith, byte-below w p c fits, min-le-left (1 + log2 (length w)) (different w), log2-bound (length w))
 
-pub ready-byte : (w : List ℕ) (c : ℕ) (x : Watch) (n : ℕ) → length w ≤ longest-code → Ready (length w) x (suc n) → Ready (length w) (with-byte w c x) n
+pub ready-byte : (w : List ℕ) (c : ℕ) (x : Watch) (n : ℕ) → length w ≤ longest-code → Ready (length w) x (suc n) →
+    Ready (length w) (with-byte w c x) n
 unfolding with-byte reported
 ready-byte w c x n few r =
     let b = step-bounds w (x .state) c (r .state) in

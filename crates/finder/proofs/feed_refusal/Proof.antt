@@ -18,13 +18,15 @@ begun : (c : tie.Else1) → begins (c .before .before .before .args .sheet .now)
 begun c = sym (c .before .is-sheet .ensures) ∙ not-false (c .before .is-sheet .result) (c .if1 .left)
 
 -- and past the second the watch is fit for its code
-fits : (c : tie.After-is-fit) (r : Bool) → c .is-fit .result ≡ r → fit (length (named (c .before .before .before .before .before .before .args .sheet .now))) (c .before .before .before .before .before .before .args .x) ≡ r
+fits : (c : tie.After-is-fit) (r : Bool) → c .is-fit .result ≡ r →
+    fit (length (named (c .before .before .before .before .before .before .args .sheet .now))) (c .before .before .before .before .before .before .args .x) ≡ r
 fits c r e =
     let a = c .before .before .before .before .before .before .args in
     ap (λ (m : ℕ). fit m (a .x)) (sym (c .before .wide .ensures .0 ∙ read-size (a .sheet .now) (on-sheet (a .sheet .now) (begun (c .before .before .before)))))
     ∙ sym (c .is-fit .ensures) ∙ e
 
-fitting : (c : tie.Else2) → fit (length (named (c .before .before .before .before .before .before .before .args .sheet .now))) (c .before .before .before .before .before .before .before .args .x) ≡ true
+fitting : (c : tie.Else2) →
+    fit (length (named (c .before .before .before .before .before .before .before .args .sheet .now))) (c .before .before .before .before .before .before .before .args .x) ≡ true
 fitting c = fits (c .before) true (not-false (c .before .is-fit .result) (c .if2 .left))
 
 is-sheet-requires : tie.Need-is-sheet-requires
@@ -54,7 +56,8 @@ returns-2 : tie.Need-returns-2
 returns-2 c =
     let a = c .before .before .before .before .before .before .before .args in
     sym
-    (refuses-5 (a .sheet .now) (a .x) (a .piece) (a .room) (begun (c .before .before .before .before)) (fits (c .before) false (not-true (c .before .is-fit .result) (c .if2 .taken))))
+    (refuses-5 (a .sheet .now) (a .x) (a .piece) (a .room) (begun (c .before .before .before .before))
+    (fits (c .before) false (not-true (c .before .is-fit .result) (c .if2 .taken))))
 
 returns-3 : tie.Need-returns-3
 returns-3 c =
@@ -72,13 +75,15 @@ returns-4 : tie.Need-returns-4
 returns-4 c =
     let a = c .before .before .before .before .before .before .before .before .before .before .args in
     sym
-    (refuses-7 (a .sheet .now) (a .x) (a .piece) (a .room) (begun (c .before .before .before .before .before .before .before)) (fitting (c .before .before .before)) (c .before .before .if3 .left) (omega (arith, c .if4 .taken)))
+    (refuses-7 (a .sheet .now) (a .x) (a .piece) (a .room) (begun (c .before .before .before .before .before .before .before)) (fitting (c .before .before .before)) (c .before .before .if3 .left)
+    (omega (arith, c .if4 .taken)))
 
 returns-5 : tie.Need-returns-5
 returns-5 c =
     let a = c .before .before .before .before .before .before .before .before .before .before .args in
     sym
-    (refuses-none (a .sheet .now) (a .x) (a .piece) (a .room) (begun (c .before .before .before .before .before .before .before)) (fitting (c .before .before .before)) (c .before .before .if3 .left) (omega (arith, c .if4 .left, c .before .struct-known .given)))
+    (refuses-none (a .sheet .now) (a .x) (a .piece) (a .room) (begun (c .before .before .before .before .before .before .before)) (fitting (c .before .before .before)) (c .before .before .if3 .left)
+    (omega (arith, c .if4 .left, c .before .struct-known .given)))
 
 pub feed-refusal-spec : {M : Type 1} → statement M
 feed-refusal-spec =

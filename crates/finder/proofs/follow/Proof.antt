@@ -34,8 +34,8 @@ add-wide-2 c = search needs
 shared-slice-read-wide-2 : tie.Need-shared-slice-read-wide-2 Inv-loop μ-loop
 shared-slice-read-wide-2 c =
     let a = c .before .before .before .before .args in
-    omega
-    (arith, c .before .wide .ensures .0, read-size (a .sheet .now) (c .before .before .before .before .pre .0), room (a .sheet .now) (c .before .before .before .before .pre .0) (a .p) (c .before .before .before .before .pre .2))
+    let q = c .before .before .before .before .pre in
+    omega (arith, c .before .wide .ensures .0, read-size (a .sheet .now) (q .0), room (a .sheet .now) (q .0) (a .p) (q .2))
 
 wide-requires-2 : tie.Need-wide-requires-2 Inv-loop μ-loop
 wide-requires-2 c κs = search needs
@@ -55,8 +55,8 @@ add-wide-3 c = search needs
 shared-slice-read-wide-3 : tie.Need-shared-slice-read-wide-3 Inv-loop μ-loop
 shared-slice-read-wide-3 c =
     let a = c .before .before .before .before .before .before .args in
-    omega
-    (arith, c .before .before .before .wide .ensures .0, read-size (a .sheet .now) (c .before .before .before .before .before .before .pre .0), room (a .sheet .now) (c .before .before .before .before .before .before .pre .0) (a .p) (c .before .before .before .before .before .before .pre .2))
+    let q = c .before .before .before .before .before .before .pre in
+    omega (arith, c .before .before .before .wide .ensures .0, read-size (a .sheet .now) (q .0), room (a .sheet .now) (q .0) (a .p) (q .2))
 
 wide-requires-3 : tie.Need-wide-requires-3 Inv-loop μ-loop
 wide-requires-3 c κs = search needs

@@ -31,8 +31,9 @@ loop-less c = search needs
 
 loop-again : tie.Need-loop-again Inv-loop μ-loop
 loop-again c =
-    let v = c .before .before .before .loop .inv in
-    (omega arith, omega arith, skipped-more (c .before .before .before .before .args .piece .now) (c .before .before .before .before .args .from) (c .before .before .before .before .args .byte) (c .before .before .before .loop .i) (v .2) (c .if1 .left))
+    let a = c .before .before .before .before .args in
+    let l = c .before .before .before .loop in
+    (omega arith, omega arith, skipped-more (a .piece .now) (a .from) (a .byte) (l .i) (l .inv .2) (c .if1 .left))
 
 returns-2 : tie.Need-returns-2 Inv-loop μ-loop
 returns-2 c = search needs
