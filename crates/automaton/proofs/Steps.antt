@@ -11,7 +11,8 @@ use Rattle.words.specs.Words.{byte, Every}
 use Rattle.words.proofs.Tests.{by-test}
 use Rattle.automaton.specs.declared.Step.{Step}
 use Rattle.automaton.specs.declared.Arrow.the-variants.{Back, Forward, Nothing}
-use Rattle.automaton.specs.Arrows.{label, back-targets, step, try-forward, try-back, stepped}
+use Rattle.automaton.specs.Arrows.{label, back-targets, step, try-forward, try-back, stepped, arrow-number, arrow-target}
+use Rattle.automaton.specs.Promise.{Arrows-told}
 use Rattle.automaton.proofs.Targets.{label-suc, target-range}
 use Rattle.automaton.proofs.Preparing.{arrows}
 
@@ -79,3 +80,17 @@ step-bounds w p c fits =
     stepped-cases Q (λ t. (1 ≤ t) × (t ≤ p)) w p c (target-range w p)
     (λ t j h l. let le : t ≤ p = h .1 in (omega arith, omega arith))
     (forward-cases (arrows w p) w p c Q (λ l e. (omega arith, omega arith)) (λ l. (omega arith, omega arith)) (λ l. (omega arith, omega arith)))
+
+-- what a step's arrow says of its state
+pub arrows-told : Arrows-told
+unfolding Arrows-told
+arrows-told w p c =
+    let Q : Step → Type 0 =
+    λ s.
+    (arrow-number (s .arrow) ≡ 0 → s .state ≡ 0) × (arrow-number (s .arrow) ≡ 1 → s .state ≡ arrow-target (s .arrow)) × (arrow-number (s .arrow) ≡ 2 → s .state ≡ suc p) in
+    stepped-cases Q (λ t. (1 ≤ t) × (t ≤ p)) w p c (target-range w p)
+    (λ t j h l. (λ e. absurd (omega arith), λ e. refl, λ e. absurd (omega arith)))
+    (forward-cases (arrows w p) w p c Q
+    (λ l e. (λ n. absurd (omega arith), λ n. absurd (omega arith), λ n. refl))
+    (λ l. (λ n. refl, λ n. absurd (omega arith), λ n. absurd (omega arith)))
+    (λ l. (λ n. refl, λ n. absurd (omega arith), λ n. absurd (omega arith))))

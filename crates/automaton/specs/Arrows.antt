@@ -56,8 +56,13 @@ unfoldable pub arrow-to : (p q : ℕ) → Arrow
 arrow-to p zero = Nothing
 arrow-to p (suc b) = cond (eqb b p) Forward (Back (suc b))
 
--- the number of an arrow: 0 none, 1 backward, 2 forward
+-- an arrow's number: 0 none, 1 backward, 2 forward; and a backward one's target, 0 for the others
 abbrev pub arrow-number : Arrow → ℕ
 arrow-number Nothing = 0
 arrow-number (Back t) = 1
 arrow-number Forward = 2
+
+abbrev pub arrow-target : Arrow → ℕ
+arrow-target Nothing = 0
+arrow-target (Back t) = t
+arrow-target Forward = 0

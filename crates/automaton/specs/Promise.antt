@@ -6,7 +6,7 @@ use mathlib.Core.Logic.{_↔_}
 use Prim.Native.Nat.{ℕ, suc, _^_, _≤_, _<_}
 use lib.ListN.{length, take}
 use Rattle.words.specs.Words.{member, Falling, state-of}
-use Rattle.automaton.specs.Arrows.{back-targets, back-arrows, stepped, arrow-to}
+use Rattle.automaton.specs.Arrows.{back-targets, back-arrows, stepped, arrow-to, arrow-number, arrow-target}
 use Rattle.automaton.specs.Ceilings.{log2, byte-ceiling}
 
 -- THE PAPER'S ARROWS. An arrow (p, a, q) leads from the first p bytes on byte a to the longest start that they, followed by a, end with
@@ -18,6 +18,15 @@ unfoldable pub Steps-right : Type 0
 Steps-right =
     (w : List ℕ) (p c : ℕ) → p ≤ length w →
     (stepped w p c .state ≡ leads-to w p c) × (stepped w p c .arrow ≡ arrow-to p (stepped w p c .state))
+
+-- by its number: none leads to 0, a backward one to its target, the forward one to p + 1
+unfoldable pub Arrows-told : Type 0
+Arrows-told =
+    (w : List ℕ) (p c : ℕ) →
+    let s = stepped w p c in
+    (arrow-number (s .arrow) ≡ 0 → s .state ≡ 0)
+    × (arrow-number (s .arrow) ≡ 1 → s .state ≡ arrow-target (s .arrow))
+    × (arrow-number (s .arrow) ≡ 2 → s .state ≡ suc p)
 
 -- a backward arrow from p to t: on some byte, to a start that is neither empty nor one longer than p
 pub record Back-arrow (w : List ℕ) (p t : ℕ) : Type 0 where

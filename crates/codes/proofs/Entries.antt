@@ -3,7 +3,7 @@ use mathlib.Core.Path.{_≡_, refl, sym, ap, _∙_}
 use mathlib.Core.Bool.{true, false}
 use mathlib.Core.List.{List, [], _∷_, _++_}
 use mathlib.Core.Logic.{_≢_}
-use Prim.Native.Nat.{ℕ, _+_, _-_, _≤_, _<_}
+use Prim.Native.Nat.{ℕ, zero, suc, _+_, _-_, _≤_, _<_}
 use native.Mathlib.Omega.{arith}
 use lib.Dec.{ltb}
 use lib.ListN.{length, getD, take, drop, length-append}
@@ -16,6 +16,7 @@ use Rattle.codes.specs.Refusals.{refused-if, first-refusal}
 use Rattle.codes.specs.Codes.{code-refusal, accepted}
 use Rattle.codes.specs.Sheet.{sheet, sheet-room, named, begins, in-front}
 use Rattle.codes.specs.Entry.{prepare-refusal, prepare-answer, prepare-buffer}
+use Rattle.codes.specs.Promise.{Prepare-makes}
 use Rattle.codes.specs.Inside.{Fits-in}
 use Rattle.codes.proofs.Refusals.{first-here, first-later, refused, passed, answered-value, answered-refusal, code-bounds}
 use Rattle.codes.proofs.Sheets.{length-sheet, sheet-first, begins-accepted, begins-front}
@@ -61,6 +62,16 @@ module _ (w a : List ℕ) where
           (Value n ≡ prepare-answer w (length a)) × (b ≡ prepare-buffer w a)
       unfolding prepare-answer prepare-buffer
       prepared n b e f = rw (passes, e, f) (sym (answered-value 0 (length (sheet w)) refl), refl)
+
+first-none : (n : ℕ) (ns : List ℕ) → first-refusal (n ∷ ns) ≡ 0 → n ≡ 0
+unfolding first-refusal
+first-none zero ns e = refl
+first-none (suc n) ns e = e
+
+pub prepare-makes : Prepare-makes
+unfolding Prepare-makes prepare-refusal prepare-buffer accepted in-front
+prepare-makes w a none =
+    (eq-eqb (code-refusal w) 0 (first-none (code-refusal w) (refused-if 3 (ltb (length a) (sheet-room (length w))) ∷ []) none), rw none refl)
 
 -- BEGINNING with a sheet, test by test
 module _ (bs : List ℕ) where

@@ -89,7 +89,7 @@ fn different(code: &[u8]) -> u64
     n
 }
 
-// The byte ceiling of a code: no byte of a text costs more comparisons.
+// The byte ceiling (the delay) of a code: no byte of a text costs more comparisons.
 pub fn byte_ceiling(code: &[u8]) -> Answer
     ensures { λ r. ⌜ r ≡ byte-answer (now (code .entry)) ⌝ }
 {

@@ -13,17 +13,17 @@ use Rattle.codes.proofs.Refusals.{accepted-bounds}
 use Rattle.codes.proofs.Sheets.{sheet-named, sheet-begins}
 use Rattle.finder.specs.declared.Watch.{Watch}
 use Rattle.finder.specs.Feed.{opened, fit, Fed, feed, ending}
-use Rattle.finder.specs.Machine.{Machine, no-text, Call, call-refusal, machine-call, machine-after}
+use Rattle.finder.specs.Machine.{Machine, machine-start, Call, call-refusal, machine-call, machine-after}
 use Rattle.finder.specs.Runs.{called}
-use Rattle.finder.specs.Entry.{ending-refusal, feed-refusal, answer-by, feed-answer, feed-places, Feed-says, Entered, Run-of, plain, plain-calls, last-watch, written-places, taken-bytes, Refused-right}
+use Rattle.finder.specs.Entry.{ending-refusal, feed-refusal, answer-by, feed-answer, feed-places, Feed-says, Feed-call, Run-of, plain, plain-calls, last-watch, written-places, taken-bytes, Refused-right}
 use Rattle.finder.specs.Promise.{after, places-in, Entries-count, Entries-alike}
 use Rattle.finder.proofs.Endings.{ending-none}
 use Rattle.finder.proofs.Places.{places-stand-in}
-use Rattle.finder.proofs.Runs.{Same, same-start, same-call}
+use Rattle.finder.proofs.Runs.{Simulates, simulates-start, simulates-call}
 use Rattle.finder.proofs.Promises.{Kept, kept-start, kept-byte, counted, alike}
 
 -- ONE CALL of the entry point is one call of a run
-record As-called (w : List ℕ) (x : Watch) (e : Entered) : Type 0 where
+record As-called (w : List ℕ) (x : Watch) (e : Feed-call) : Type 0 where
   watch : e .answer .watch ≡ called w (plain e) x .after
   places : take (e .answer .written) (e .list-after) ≡ called w (plain e) x .places
   taken : e .answer .taken ≡ called w (plain e) x .taken
@@ -33,7 +33,7 @@ in-front-take : (ps a : List ℕ) → take (length ps) (in-front ps a) ≡ ps
 unfolding in-front
 in-front-take ps a = take-at ps (drop (length ps) a) (length ps) refl
 
-as-called : (w : List ℕ) (x : Watch) (e : Entered) (n : ℕ) → call-refusal (plain e) (x .taken) ≡ n →
+as-called : (w : List ℕ) (x : Watch) (e : Feed-call) (n : ℕ) → call-refusal (plain e) (x .taken) ≡ n →
     e .answer ≡ answer-by n w (e .piece) (length (e .list)) x →
     e .list-after ≡ cond (eqb n 0) (in-front (feed w (e .piece) (length (e .list)) x .places) (e .list)) (e .list) → As-called w x e
 unfolding called answer-by
@@ -55,7 +55,7 @@ module _ (w rest : List ℕ) (good : accepted w ≡ true) where
   unfolding feed-refusal call-refusal first-refusal refused-if
   same-refusal x c fits = rw (sheet-begins w rest good, sheet-named, fits)
 
-  says-called : (x : Watch) (e : Entered) → fit (length w) x ≡ true →
+  says-called : (x : Watch) (e : Feed-call) → fit (length w) x ≡ true →
       Feed-says (sheet w ++ rest) x (e .piece) (e .answer) (e .list) (e .list-after) → As-called w x e
   unfolding feed-answer feed-places
   says-called x e fits f =
@@ -63,24 +63,24 @@ module _ (w rest : List ℕ) (good : accepted w ≡ true) where
       (rw (same-refusal x (plain e) fits, sheet-named) at (f .leaves))
 
   -- A RUN keeps the simulation, and its refusals are the machine's
-  entries-same : (es : List Entered) {x : Watch} {ps bs : List ℕ} {m : Machine} → Same w (Kept w) x ps bs m →
+  entries-simulate : (es : List Feed-call) {x : Watch} {ps bs : List ℕ} {m : Machine} → Simulates w (Kept w) x ps bs m →
       Run-of (sheet w ++ rest) es x →
-      Same w (Kept w) (last-watch es x) (ps ++ written-places es) (bs ++ taken-bytes es) (machine-after w (plain-calls es) m)
+      Simulates w (Kept w) (last-watch es x) (ps ++ written-places es) (bs ++ taken-bytes es) (machine-after w (plain-calls es) m)
       × Refused-right w es m
   unfolding Run-of plain-calls last-watch written-places taken-bytes machine-after Refused-right
-  entries-same [] s r = (simp append-nil s, tt)
-  entries-same (e ∷ es) {x} {ps} {bs} {m} s r =
+  entries-simulate [] s r = (simp append-nil s, tt)
+  entries-simulate (e ∷ es) {x} {ps} {bs} {m} s r =
       let q : As-called w x e = says-called x e (counted (accepted-bounds w good .0) s .fits) (r .0) in
       let qs : List ℕ = ps ++ take (e .answer .written) (e .list-after) in
       let cs : List ℕ = bs ++ take (e .answer .taken) (e .piece) in
-      let one = same-call w (Kept w) (kept-byte w) (plain e) s in
-      let t : Same w (Kept w) (e .answer .watch) qs cs (machine-call w (plain e) m) = rw (q .watch, q .places, q .taken) one in
-      let u = entries-same es t (r .1) in
+      let one = simulates-call w (Kept w) (kept-byte w) (plain e) s in
+      let t : Simulates w (Kept w) (e .answer .watch) qs cs (machine-call w (plain e) m) = rw (q .watch, q .places, q .taken) one in
+      let u = entries-simulate es t (r .1) in
       (simp append-assoc at (u .0), (rw (← (s .bytes)) (q .refusal), u .1))
 
-  entries-run : (es : List Entered) → Run-of (sheet w ++ rest) es opened →
-      Same w (Kept w) (last-watch es opened) (written-places es) (taken-bytes es) (after w (plain-calls es)) × Refused-right w es no-text
-  entries-run es r = entries-same es (same-start w (Kept w) (kept-start w)) r
+  entries-run : (es : List Feed-call) → Run-of (sheet w ++ rest) es opened →
+      Simulates w (Kept w) (last-watch es opened) (written-places es) (taken-bytes es) (after w (plain-calls es)) × Refused-right w es machine-start
+  entries-run es r = entries-simulate es (simulates-start w (Kept w) (kept-start w)) r
 
 pub entries-count : Entries-count
 unfolding Entries-count

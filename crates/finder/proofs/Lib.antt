@@ -1,11 +1,11 @@
 pub mod Places
 pub mod Runs
 pub mod Promises
+pub mod Fitness
+pub mod Refusing
 pub mod Endings
 pub mod Entries
 pub mod Reading
 pub mod Turns
 pub mod Taking
-pub mod Fitness
-pub mod Refusing
 pub mod Samples

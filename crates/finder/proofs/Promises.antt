@@ -19,10 +19,10 @@ use Rattle.automaton.proofs.TotalCeiling.{Running, running-start, running-byte,
 use Rattle.automaton.proofs.ByteCeiling.{byte-below}
 use Rattle.finder.specs.declared.Watch.{Watch}
 use Rattle.finder.specs.Feed.{opened, fit}
-use Rattle.finder.specs.Machine.{Machine, no-text, cost-after, found-at, machine-byte, Call, costs, sum}
+use Rattle.finder.specs.Machine.{Machine, machine-start, cost-after, found-at, machine-byte, Call, costs, sum}
 use Rattle.finder.specs.Runs.{watch-after, places-over, bytes-over}
 use Rattle.finder.specs.Promise.{Counted, after, Runs-count, Text-taken, Alike-count, places-in, Places-told, Places-right, Places-stand}
-use Rattle.finder.proofs.Runs.{Same, state-nil, same-opened}
+use Rattle.finder.proofs.Runs.{Simulates, state-nil, simulates-opened}
 use Rattle.finder.proofs.Places.{place-one, places-snoc, places-stand-in}
 
 -- COSTS: one more, and none over the byte ceiling
@@ -59,13 +59,13 @@ found-few w ts = place-one (ends-with ts w (length w)) (length ts - length w)
 
 -- what each byte keeps: all that a machine has is told by its text
 pub record Kept (w : List ℕ) (m : Machine) : Type 0 where
-  pub alone : m ≡ read w (m .text) no-text
+  pub alone : m ≡ read w (m .text) machine-start
   pub right : m .found ≡ places-in (length (m .text)) 1 w (m .text)
   pub few : length (m .found) ≤ length (m .text)
   pub adds : m .total ≡ sum (costs w [] (m .text))
   pub running : 1 ≤ length w → Running w (length (m .text)) (state-of w (m .text)) (m .total)
 
-pub kept-start : (w : List ℕ) → Kept w no-text
+pub kept-start : (w : List ℕ) → Kept w machine-start
 unfolding read places-in costs sum
 kept-start w =
     record { alone = refl; right = refl; few = omega arith; adds = refl; running = λ some. rw (state-nil w) (running-start w) }
@@ -76,7 +76,7 @@ kept-byte w c m q =
     let ts : List ℕ = m .text in
     let us : List ℕ = ts ++ (c ∷ []) in
     record {
-      alone = ap (machine-byte w c) (q .alone) ∙ sym (read-snoc w ts c no-text);
+      alone = ap (machine-byte w c) (q .alone) ∙ sym (read-snoc w ts c machine-start);
       right = rw (places-snoc, q .right);
       few = omega (arith, length-append (m .found) (found-at w us), length-snoc ts c, found-few w us, q .few);
       adds = rw (costs-snoc w [] ts c, sum-snoc, q .adds);
@@ -86,8 +86,8 @@ kept-byte w c m q =
 
 -- A RUN from an opening
 run : (w : List ℕ) (cs : List Call) →
-    Same w (Kept w) (watch-after w cs opened) (places-over w cs opened) (bytes-over w cs opened) (after w cs)
-run w cs = same-opened w (Kept w) (kept-byte w) (kept-start w) cs
+    Simulates w (Kept w) (watch-after w cs opened) (places-over w cs opened) (bytes-over w cs opened) (after w cs)
+run w cs = simulates-opened w (Kept w) (kept-byte w) (kept-start w) cs
 
 fit-is : (l : ℕ) (x : Watch) →
     x .state ≤ l → x .state ≤ x .taken → x .hits ≤ x .taken → x .compares ≤ 2 * x .taken → fit l x ≡ true
@@ -99,7 +99,7 @@ fit-is l x a b c d =
     (and-both (leb (x .hits) n) (leb (x .compares) (2 * n)) (le-leb (x .hits) n c) (le-leb (x .compares) (2 * n) d))
 
 -- a watch in the simulation has all that the third demand asks
-pub counted : {w : List ℕ} {x : Watch} {ps bs : List ℕ} {m : Machine} → 1 ≤ length w → Same w (Kept w) x ps bs m → Counted w x m
+pub counted : {w : List ℕ} {x : Watch} {ps bs : List ℕ} {m : Machine} → 1 ≤ length w → Simulates w (Kept w) x ps bs m → Counted w x m
 counted {w} {x} {m = m} some s =
     let n : ℕ = length (m .text) in
     let p : ℕ = state-of w (m .text) in
@@ -140,7 +140,7 @@ places-stand w cs some = rw (run w cs .keeps .right) (places-stand-in w (after w
 
 -- LISTS ALIKE: watches and places told are equal where the bytes taken are, since a machine is read off its text
 same-watch : {w : List ℕ} {P : Machine → Type 0} {x y : Watch} {ps qs bs ds : List ℕ} {m : Machine} →
-    Same w P x ps bs m → Same w P y qs ds m → x ≡ y
+    Simulates w P x ps bs m → Simulates w P y qs ds m → x ≡ y
 same-watch u v =
     λ i.
     record {
@@ -151,10 +151,10 @@ same-watch u v =
     }
 
 pub alike : {w : List ℕ} {x y : Watch} {ps qs bs ds : List ℕ} {m n : Machine} →
-    Same w (Kept w) x ps bs m → Same w (Kept w) y qs ds n → bs ≡ ds → (x ≡ y) × (ps ≡ qs)
+    Simulates w (Kept w) x ps bs m → Simulates w (Kept w) y qs ds n → bs ≡ ds → (x ≡ y) × (ps ≡ qs)
 alike {w} {m = m} {n} u v e =
     let texts : m .text ≡ n .text = sym (u .text) ∙ e ∙ v .text in
-    let one : m ≡ n = u .keeps .alone ∙ ap (λ (ts : List ℕ). read w ts no-text) texts ∙ sym (v .keeps .alone) in
+    let one : m ≡ n = u .keeps .alone ∙ ap (λ (ts : List ℕ). read w ts machine-start) texts ∙ sym (v .keeps .alone) in
     (same-watch (rw one at u) v, u .told ∙ ap (λ (k : Machine). k .found) one ∙ sym (v .told))
 
 pub alike-count : Alike-count

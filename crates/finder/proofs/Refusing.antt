@@ -4,7 +4,8 @@ use mathlib.Core.Bool.{true, false, not}
 use mathlib.Core.Logic.{_≢_}
 use mathlib.Core.List.{List, [], _∷_}
 use Prim.Native.Nat.{ℕ, zero, suc, _+_, _≤_, _<_}
-use borrow.Author.Tests.{eq-eqb, ne-eqb, lt-ltb, le-ltb, ltb-false, not-false}
+use borrow.Author.Tests.{eq-eqb, ne-eqb, lt-ltb, le-ltb, ltb-false, eqb-false, not-false}
+use native.Mathlib.Omega.{arith}
 use lib.Dec.{ltb, eqb}
 use lib.ListN.{length}
 use Rattle.codes.specs.Refusals.{refused-if, first-refusal}
@@ -75,6 +76,12 @@ module _ (bs : List ℕ) (x : Watch) (l k : ℕ) where
 
     later-6 : first-refusal (six ∷ seven ∷ []) ≡ 0
     later-6 = none-later 4 (not (fit (length (named bs)) x)) (six ∷ seven ∷ []) later-5
+
+    pub none-room : 1 ≤ k
+    none-room = some k (eqb-false k 0 (none-first 5 (eqb k 0) (seven ∷ []) later-6))
+      where
+        some : (j : ℕ) → j ≢ 0 → 1 ≤ j
+        some j h = omega arith
 
     pub none-refused : On-sheet bs × Ready (length (named bs)) x l
     none-refused = (

@@ -197,17 +197,12 @@ module _ {bs : List ℕ} {m : ℕ} {x : Watch} {piece : List ℕ} {i : ℕ} (t :
       let none : completed (length w) y ≡ [] = completed-none (length w) y (λ z. omega arith) in
       record { later = omega arith; within = omega arith; ready = ready; feeds = λ k. rw (none, sub-zero (suc k)) (passed k) }
 
-  pub turned-start : j < length piece → (z : Watch) → z ≡ with-step m (step 1 1 Forward) (missed (j - i) x) →
+  pub turned-start : j < length piece → (q : Step) (z : Watch) → q ≡ stepped (named bs) 0 (getD piece j 0) → z ≡ with-step m q (missed (j - i) x) →
       Turned (named bs) piece x i (record { watch = z; at = j + 1 })
-  turned-start found z z-is =
+  turned-start found q z q-is z-is =
       let b = bounds in
-      let c : ℕ = getD piece j 0 in
-      let here : byte w 0 ≡ c = sym (s .found found ∙ first) in
-      let is : z ≡ with-byte w c y =
-      z-is ∙ ap (λ (k : ℕ). with-step k (step 1 1 Forward) y) (t .m-is)
-      ∙ ap (λ (q : Step). with-step (length w) q y) (sym (start-on w c (t .on .some) here))
-      ∙ step-byte w c y in
-      let u = turned-one w piece j found y z is (t .on .few) ready in
+      let next : Turning bs m y piece j = record { on = t .on; m-is = t .m-is; inside = found; ready = rw (t .m-is) ready } in
+      let u = turned-byte next q z q-is z-is in
       let one : j + 1 - j ≡ 1 = omega arith in
       let all : n + 1 ≡ j + 1 - i = omega arith in
       let last : List ℕ = completed (length w) z in

@@ -60,40 +60,40 @@ pub record Feed-says (buffer : List ℕ) (x : Watch) (piece : List ℕ) (answer 
   pub leaves : list-after ≡ feed-places buffer x piece list
 
 -- A RUN of the entry point: each call has a piece, a list of places, an answer and the list after it
-pub record Entered : Type 0 where
+pub record Feed-call : Type 0 where
   pub piece : List ℕ
   pub list : List ℕ
   pub answer : Feeding
   pub list-after : List ℕ
 
 -- every call gets the buffer and the watch answered before, and meets the contract
-unfoldable pub Run-of : (buffer : List ℕ) → List Entered → Watch → Type 0
+unfoldable pub Run-of : (buffer : List ℕ) → List Feed-call → Watch → Type 0
 Run-of bs [] x = Unit {0}
 Run-of bs (e ∷ es) x = Feed-says bs x (e .piece) (e .answer) (e .list) (e .list-after) × Run-of bs es (e .answer .watch)
 
 -- the call as the plain machine sees it
-abbrev pub plain : Entered → Call
+abbrev pub plain : Feed-call → Call
 plain e = record { piece = e .piece; room = length (e .list) }
 
-unfoldable pub plain-calls : List Entered → List Call
+unfoldable pub plain-calls : List Feed-call → List Call
 plain-calls [] = []
 plain-calls (e ∷ es) = plain e ∷ plain-calls es
 
 -- the last watch answered, the places written, and the bytes taken
-unfoldable pub last-watch : List Entered → Watch → Watch
+unfoldable pub last-watch : List Feed-call → Watch → Watch
 last-watch [] x = x
 last-watch (e ∷ es) x = last-watch es (e .answer .watch)
 
-unfoldable pub written-places : List Entered → List ℕ
+unfoldable pub written-places : List Feed-call → List ℕ
 written-places [] = []
 written-places (e ∷ es) = take (e .answer .written) (e .list-after) ++ written-places es
 
-unfoldable pub taken-bytes : List Entered → List ℕ
+unfoldable pub taken-bytes : List Feed-call → List ℕ
 taken-bytes [] = []
 taken-bytes (e ∷ es) = take (e .answer .taken) (e .piece) ++ taken-bytes es
 
 -- each call is refused with 6 or 7 under their conditions, n being the length of the machine's text, and in no other case
-unfoldable pub Refused-right : (w : List ℕ) → List Entered → Machine → Type 0
+unfoldable pub Refused-right : (w : List ℕ) → List Feed-call → Machine → Type 0
 Refused-right w [] m = Unit {0}
 Refused-right w (e ∷ es) m =
     (ending-refusal (e .answer .ending) ≡ call-refusal (plain e) (length (m .text))) × Refused-right w es (machine-call w (plain e) m)

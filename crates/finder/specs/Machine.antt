@@ -17,8 +17,8 @@ pub record Machine : Type 0 where
 abbrev pub machine : (text : List ℕ) → (total : ℕ) → (found : List ℕ) → Machine
 machine ts n ps = record { text = ts; total = n; found = ps }
 
-abbrev pub no-text : Machine
-no-text = machine [] 0 []
+abbrev pub machine-start : Machine
+machine-start = machine [] 0 []
 
 -- the cost of byte c after a text: that of the step from the state that belongs to the text
 unfoldable pub cost-after : (w text : List ℕ) → (c : ℕ) → ℕ

@@ -1,4 +1,4 @@
--- What is promised of sheets, of runs of feeding calls and of the entry points. Each statement is a type; docs/PROOFS.md names its proof. Assumes nothing.
+-- What is promised of runs of feeding calls, of endings, and of `feed`'s own answers. Each statement is a type; docs/PROOFS.md names its proof. Assumes nothing.
 use mathlib.Core.Path.{_≡_}
 use mathlib.Core.Bool.{true}
 use mathlib.Core.List.{List, [], _++_}
@@ -10,10 +10,11 @@ use Rattle.automaton.specs.Ceilings.{byte-ceiling, total-ceiling}
 use Rattle.codes.specs.Codes.{accepted}
 use Rattle.codes.specs.Sheet.{sheet}
 use Rattle.finder.specs.declared.Watch.{Watch}
-use Rattle.finder.specs.Feed.{opened, fit, place-if, fed, feed}
-use Rattle.finder.specs.Machine.{Machine, no-text, Call, machine-after, costs, sum}
+use Rattle.finder.specs.declared.Ending.the-variants.{PieceDone}
+use Rattle.finder.specs.Feed.{opened, fit, place-if}
+use Rattle.finder.specs.Machine.{Machine, machine-start, Call, machine-after, costs, sum}
 use Rattle.finder.specs.Runs.{watch-after, places-over, bytes-over}
-use Rattle.finder.specs.Entry.{ending-refusal, ending-full, feed-refusal, feed-answer, Entered, Run-of, plain-calls, last-watch, written-places, taken-bytes, Refused-right}
+use Rattle.finder.specs.Entry.{ending-refusal, ending-full, feed-refusal, feed-answer, feed-places, Feed-call, Run-of, plain-calls, last-watch, written-places, taken-bytes, Refused-right}
 
 -- THE THIRD DEMAND: a watch has what the plain machine has, and the machine's costs keep to both ceilings
 pub record Counted (w : List ℕ) (x : Watch) (m : Machine) : Type 0 where
@@ -28,7 +29,7 @@ pub record Counted (w : List ℕ) (x : Watch) (m : Machine) : Type 0 where
 
 -- the machine after a list of calls
 abbrev pub after : (w : List ℕ) → List Call → Machine
-after w cs = machine-after w cs no-text
+after w cs = machine-after w cs machine-start
 
 -- of any list of calls from an opening on, refused ones among them
 unfoldable pub Runs-count : Type 0
@@ -64,23 +65,27 @@ Places-stand =
     Rising (after w cs .found)
     × ((i : ℕ) → (member i (after w cs .found) ≡ true) ↔ (take (length w) (drop i (after w cs .text)) ≡ w))
 
--- an ending has its refusal's number, and says list full only when the list is full and bytes of the piece are left
+-- an ending has its refusal's number; list full: the list is full and bytes of the piece are left; piece done: all its bytes were taken
 unfoldable pub Endings-told : Type 0
 Endings-told =
     (buffer : List ℕ) (x : Watch) (piece : List ℕ) (room : ℕ) →
     let r = feed-answer buffer x piece room in
     (ending-refusal (r .ending) ≡ feed-refusal buffer x (length piece) room)
     × (ending-full (r .ending) ≡ 1 → (r .written ≡ room) × (r .taken < length piece))
+    × (ending-refusal (r .ending) ≡ 0 → ending-full (r .ending) ≡ 0 → r .taken ≡ length piece)
 
--- feeding goes on: a piece that is not empty and a list with room take at least one byte; an empty piece changes nothing
+-- feeding goes on: a call that is not refused takes at least one byte of a piece that is not empty; an empty piece changes nothing and is done
 unfoldable pub Feeding-goes-on : Type 0
 Feeding-goes-on =
-    (w piece : List ℕ) (room : ℕ) (x : Watch) →
-    (1 ≤ length piece → 1 ≤ room → 1 ≤ feed w piece room x .taken) × (feed w [] room x ≡ fed x 0 [])
+    (buffer : List ℕ) (x : Watch) (piece list : List ℕ) → feed-refusal buffer x (length piece) (length list) ≡ 0 →
+    let r = feed-answer buffer x piece (length list) in
+    (1 ≤ length piece → 1 ≤ r .taken)
+    × (piece ≡ [] →
+    (r ≡ record { watch = x; taken = 0; written = 0; ending = PieceDone }) × (feed-places buffer x piece list ≡ list))
 
 -- THE ENTRY POINTS. What their own answers come to over a run: the third demand, and the second
-pub record Entries-counted (w : List ℕ) (es : List Entered) : Type 0 where
-  pub refusals : Refused-right w es no-text
+pub record Entries-counted (w : List ℕ) (es : List Feed-call) : Type 0 where
+  pub refusals : Refused-right w es machine-start
   pub counted : Counted w (last-watch es opened) (after w (plain-calls es))
   pub text : taken-bytes es ≡ after w (plain-calls es) .text
   pub places : written-places es ≡ after w (plain-calls es) .found
@@ -90,11 +95,11 @@ pub record Entries-counted (w : List ℕ) (es : List Entered) : Type 0 where
 -- of any run on a buffer that begins with the sheet of an accepted code, from an opening on
 unfoldable pub Entries-count : Type 0
 Entries-count =
-    (w rest : List ℕ) (es : List Entered) → accepted w ≡ true → Run-of (sheet w ++ rest) es opened → Entries-counted w es
+    (w rest : List ℕ) (es : List Feed-call) → accepted w ≡ true → Run-of (sheet w ++ rest) es opened → Entries-counted w es
 
 -- two runs alike in the code and the bytes taken end alike
 unfoldable pub Entries-alike : Type 0
 Entries-alike =
-    (w rest other : List ℕ) (es fs : List Entered) → accepted w ≡ true →
+    (w rest other : List ℕ) (es fs : List Feed-call) → accepted w ≡ true →
     Run-of (sheet w ++ rest) es opened → Run-of (sheet w ++ other) fs opened → taken-bytes es ≡ taken-bytes fs →
     (last-watch es opened ≡ last-watch fs opened) × (written-places es ≡ written-places fs)

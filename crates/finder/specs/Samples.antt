@@ -9,7 +9,7 @@ use Rattle.finder.specs.Feed.{opened, Fed, feed, ending}
 use Rattle.finder.specs.Machine.{costs}
 use Rattle.finder.specs.Entry.{ending-full}
 
--- A SAMPLE: lists of numbers as the definitions give them, and as the document says
+-- A SAMPLE: lists of numbers as the definitions give them, and as the document says, or its rules where it gives no number
 pub record Sample : Type 0 where
   pub found : List (List ℕ)
   pub expected : List (List ℕ)
@@ -22,13 +22,13 @@ prepared w bs = record { found = sheet w ∷ []; expected = bs ∷ [] }
 unfoldable pub fed-whole : (code text : List ℕ) → Fed
 fed-whole w ts = feed w ts (suc (length ts)) opened
 
--- the places of a code in a text; the bytes taken, the comparisons and the total ceiling
+-- the places of a code in a text; the bytes taken, the places reported, the comparisons and the total ceiling
 unfoldable pub searched : (code text places : List ℕ) → (compares ceiling : ℕ) → Sample
 searched w ts ps k n =
     let f = fed-whole w ts in
     record {
-      found = f .places ∷ (f .taken ∷ f .after .compares ∷ total-ceiling (length w) (length ts) ∷ []) ∷ [];
-      expected = ps ∷ (length ts ∷ k ∷ n ∷ []) ∷ [];
+      found = f .places ∷ (f .taken ∷ f .after .hits ∷ f .after .compares ∷ total-ceiling (length w) (length ts) ∷ []) ∷ [];
+      expected = ps ∷ (length ts ∷ length ps ∷ k ∷ n ∷ []) ∷ [];
     }
 
 -- the costs of a text's bytes, one by one; the byte ceiling

@@ -1,9 +1,10 @@
 // Feeding: the watch (the scan's state), and one pass over the pieces of a text, a byte at a time.
-// The order of comparisons is that of Hancart's theorem 4.6: backward labels by falling target, then the forward label.
+// The order of comparisons is one that Hancart's theorem 4.6 covers: the backward labels first, by falling target, then the forward label.
 ghost use mathlib.Core.Path.{_≡_};
 ghost use Prim.Native.Nat.{_+_, _-_, _^_, _≤_, _<_};
-ghost use lib.ListN.{length};
+ghost use lib.ListN.{length, getD};
 ghost use Rattle.automaton.specs.Arrows.{try-forward, stepped};
+ghost use Rattle.codes.specs.Codes.{longest-code};
 ghost use Rattle.codes.specs.Sheet.{named};
 ghost use Rattle.finder.specs.Feed.{longest-text, opened, fit};
 ghost use Rattle.finder.specs.Entry.{feed-refusal, Feed-says};
@@ -23,10 +24,18 @@ pub struct Watch {
 }
 
 impl Watch {
-    // The longest code, and the most bytes that a watch takes.
+    // The longest code.
     pub const LONGEST_CODE: u32 = codes::LONGEST;
 
+    // The most bytes that a watch takes.
     pub const LONGEST_TEXT: u32 = 4294967295;
+
+    // Holds the first limit to its definition; `feed_refusal` holds the second.
+    fn longest_code() -> u32
+        ensures { λ r. ⌜ r ≡ longest-code ⌝ }
+    {
+        Watch::LONGEST_CODE
+    }
 
     // A new watch.
     pub fn open() -> Watch
@@ -48,7 +57,7 @@ pub enum Ending {
     Refused(u32),
 }
 
-// What a feeding answers: the new watch, the bytes taken, the places written, and the ending.
+// What a feeding answers: the new watch, the bytes taken and the places written in this call, and the ending.
 pub struct Feeding {
     pub watch: Watch,
     pub taken: u32,
@@ -135,6 +144,18 @@ fn skip(piece: &[u8], from: usize, byte: u8) -> usize
     i
 }
 
+// The step from state 0 on the code's first byte, which `skip` has compared already.
+fn first_step(sheet: &[u8], byte: u8) -> Step
+    requires { ⌜ On-sheet (now sheet) × (byte ≡ getD (now sheet) 1 0) ⌝ }
+    ensures { λ r. ⌜ r ≡ stepped (named (now (sheet .entry))) 0 byte ⌝ }
+{
+    Step {
+        state: 1,
+        cost: 1,
+        arrow: Arrow::Forward,
+    }
+}
+
 // Where a turn of the loop over a piece has come to.
 struct Turn {
     watch: Watch,
@@ -157,11 +178,7 @@ fn from_start(sheet: &[u8], m: u32, x: Watch, piece: &[u8], i: usize) -> Turn
     if j == piece.len() {
         return Turn { watch: y, at: j };
     }
-    let s = Step {
-        state: 1,
-        cost: 1,
-        arrow: Arrow::Forward,
-    };
+    let s = first_step(sheet, piece[j]);
     Turn {
         watch: after_step(y, m, s),
         at: j + 1,

@@ -8,8 +8,7 @@ use Rattle.finder.proofs.from_start.Statement.{statement}
 use Rattle.finder.proofs.from_start.Tie as tie
 
 shared-slice-read-skip : tie.Need-shared-slice-read-skip
-shared-slice-read-skip c =
-    omega (arith, room (c .before .before .before .args .sheet .now) (c .before .before .before .pre .0 .on) 0 zero-le)
+shared-slice-read-skip c = omega (arith, room (c .before .before .before .args .sheet .now) (c .before .before .before .pre .0 .on) 0 zero-le)
 
 skip-requires : tie.Need-skip-requires
 skip-requires c κs = search needs
@@ -30,9 +29,13 @@ add-t15 : tie.Need-add-t15
 add-t15 c = search needs
 
 returns : tie.Need-returns
-returns c =
-    let q = c .before .before .before .before .before .before .before .pre in
-    turned-missed (q .0) (q .1) (c .before .before .before .skip .result) (c .before .before .before .skip .ensures) (omega arith)
+returns c = let q = c .before .before .before .before .before .before .before .pre in turned-missed (q .0) (q .1) (c .before .before .before .skip .result) (c .before .before .before .skip .ensures) (omega arith)
+
+shared-slice-read-first-step : tie.Need-shared-slice-read-first-step
+shared-slice-read-first-step c = let s = c .before .before .before .before .skip .ensures in omega (arith, s .within, c .before .if1 .left)
+
+first-step-requires : tie.Need-first-step-requires
+first-step-requires c κs = let s = c .before .before .before .before .skip .ensures in (c .before .before .before .before .before .before .before .before .pre .0 .on, s .found (omega (arith, s .within, c .before .if1 .left)))
 
 after-step-requires : tie.Need-after-step-requires
 after-step-requires c κs = search needs
@@ -42,9 +45,10 @@ add-t12 c = search needs
 
 returns-2 : tie.Need-returns-2
 returns-2 c =
-    let q = c .before .before .before .before .before .before .before .before .pre in
-    let s = c .before .before .before .before .skip .ensures in
-    turned-start (q .0) (q .1) (c .before .before .before .before .skip .result) s (omega (arith, s .within, c .before .if1 .left)) (c .after-step .result) (c .after-step .ensures)
+    let q = c .before .before .before .before .before .before .before .before .before .before .pre in
+    let s = c .before .before .before .before .before .before .skip .ensures in
+    turned-start (q .0) (q .1) (c .before .before .before .before .before .before .skip .result) s (omega (arith, s .within, c .before .before .before .if1 .left)) (c .before .first-step .result) (c .after-step .result)
+    (c .before .first-step .ensures) (c .after-step .ensures)
 
 pub from-start-spec : {M : Type 1} → statement M
 from-start-spec =
@@ -58,6 +62,8 @@ from-start-spec =
     cast-t14
     add-t15
     returns
+    shared-slice-read-first-step
+    first-step-requires
     after-step-requires
     add-t12
     returns-2)
