@@ -117,7 +117,7 @@ fn follow(sheet: &[u8], p: usize, byte: u8) -> Step
 
 // The watch after a step, for a code of m bytes.
 fn after_step(x: Watch, m: u32, s: Step) -> Watch
-    requires { ⌜ (x .taken < longest-text) × (x .hits ≤ x .taken) × (x .compares + s .cost < 2 ^ 64) ⌝ }
+    requires { ⌜ (x .taken < longest-text) × (x .hits ≤ x .taken) × (x .compares < 2 ^ 63) ⌝ }
     ensures { λ r. ⌜ r ≡ with-step m s x ⌝ }
 {
     let hits = if s.state == m { x.hits + 1 } else { x.hits };

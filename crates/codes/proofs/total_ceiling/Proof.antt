@@ -1,6 +1,6 @@
 -- `total_ceiling` meets its contract. Assumes nothing.
 use mathlib.Core.Path.{_≡_, sym, _∙_}
-use Prim.Native.Nat.{_*_, _-_, _≤_}
+use Prim.Native.Nat.{ℕ, _*_, _≤_, _<_}
 use native.Mathlib.Omega.{arith}
 use native.Mathlib.Nat.{mul-le-mul-right}
 use Rattle.automaton.specs.Ceilings.{total-ceiling}
@@ -14,6 +14,12 @@ use Rattle.codes.proofs.total_ceiling.Tie as tie
 -- past the refusals the length is a code's
 none : (c : tie.Else1) → length-refusal (c .before .before .args .m) ≡ 0
 none c = sym (c .before .length-refusal .ensures) ∙ c .if1 .left
+
+-- a factor of ten bits and one of thirty-two
+product-fits : {k n : ℕ} → k < 1024 → n < 4294967296 → k * n < 18446744073709551616
+product-fits {k} {n} a b =
+    let bound : k * n ≤ 1024 * n = mul-le-mul-right n (omega arith) in
+    omega arith
 
 length-refusal-requires : tie.Need-length-refusal-requires
 length-refusal-requires c κs = search needs
@@ -30,12 +36,7 @@ sub-t8 : tie.Need-sub-t8
 sub-t8 c = omega (arith, length-bounds _ (none c))
 
 mul-t10 : tie.Need-mul-t10
-mul-t10 c =
-    let bounds = length-bounds _ (none c) in
-    let m = c .before .before .args .m in
-    let n = c .before .before .args .n in
-    let bound : (2 * m - 1) * n ≤ 509 * n = mul-le-mul-right n (omega arith) in
-    omega arith
+mul-t10 c = let bounds = length-bounds _ (none c) in record { fits = product-fits (omega arith) (omega arith) }
 
 div-t11 : tie.Need-div-t11
 div-t11 c = omega (arith, length-bounds _ (none c))
