@@ -1,0 +1,54 @@
+-- The digits that the kit's `decimal` writes are the fewest, so they are those of the definition. Assumes nothing.
+use mathlib.Core.Path.{_≡_, refl}
+use mathlib.Core.List.{[], _∷_, _++_}
+use Prim.Native.Nat.{ℕ, zero, suc, _+_, _-_, _/_, _%_, _^_, _≤_, _<_}
+use native.Mathlib.Nat.{pow-succ'}
+use native.Mathlib.Omega.{arith}
+use borrow.Author.Tests.{lt-ltb, le-ltb}
+use Rattle.forms.specs.Text.{digits-of, decimal}
+use Rattle.io.specs.Digits.{glyph, digits, Fewest}
+
+-- a power of ten is above its exponent
+power-above : (k : ℕ) → k < 10 ^ k
+power-above zero = omega arith
+power-above (suc k) = omega (arith, power-above k, pow-succ' 10 k)
+
+-- a digit
+digit-glyph : (n : ℕ) → glyph (n % 10) ≡ 48 + n % 10
+digit-glyph n = rw (lt-ltb (n % 10) 10 (omega arith)) refl
+
+-- one digit, and one more
+digits-one : (f n : ℕ) → n < 10 → digits-of (suc f) n ≡ (48 + n % 10) ∷ []
+unfolding digits-of
+digits-one f n h = rw (lt-ltb n 10 h) refl
+
+digits-more : (f n : ℕ) → 10 ≤ n → digits-of (suc f) n ≡ digits-of f (n / 10) ++ ((48 + n % 10) ∷ [])
+unfolding digits-of
+digits-more f n h = rw (le-ltb n 10 h) refl
+
+digits-fewest : (k f n : ℕ) → k ≤ f → Fewest 10 1 n k → digits 10 k n ≡ digits-of f n
+digits-fewest zero f n l h = absurd (omega (arith, h .0))
+digits-fewest (suc k) zero n l h = absurd (omega arith)
+digits-fewest (suc zero) (suc f) n l h = rw (digits-one f n (h .1), digit-glyph n) refl
+digits-fewest (suc (suc k)) (suc f) n l h =
+    let at : suc (suc k) - 1 ≡ suc k = omega arith in
+    let low : 10 ^ suc k ≤ n = rw at at (h .2 (omega arith)) in
+    let many : 10 ≤ n = omega (arith, low, pow-succ' 10 k, power-above k) in
+    rw (digits-more f n many, digit-glyph n, ← digits-fewest (suc k) f (n / 10) (omega arith) (tenth low)) refl
+  where
+    tenth : 10 ^ suc k ≤ n → Fewest 10 1 (n / 10) (suc k)
+    tenth low =
+        let at : suc k - 1 ≡ k = omega arith in (
+          omega arith,
+          omega (arith, h .1, pow-succ' 10 (suc k)),
+          λ _. rw at (omega (arith, low, pow-succ' 10 k)),
+        )
+
+pub decimal-is : (k n : ℕ) → Fewest 10 1 n k → digits 10 k n ≡ decimal n
+unfolding decimal
+decimal-is zero n h = absurd (omega (arith, h .0))
+decimal-is (suc zero) n h = digits-fewest 1 (suc n) n (omega arith) h
+decimal-is (suc (suc k)) n h =
+    let at : suc (suc k) - 1 ≡ suc k = omega arith in
+    let low : 10 ^ suc k ≤ n = rw at at (h .2 (omega arith)) in
+    digits-fewest (suc (suc k)) (suc n) n (omega (arith, low, power-above (suc k))) h

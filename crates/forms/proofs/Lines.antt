@@ -1,0 +1,196 @@
+-- Reading the first line: what each byte does, and that exactly the inputs of its form are read to the line's end. Assumes nothing.
+use mathlib.Core.Path.{_≡_, refl, sym, ap, _∙_}
+use mathlib.Core.Bool.{Bool, true, false, _&&_, cond}
+use mathlib.Core.List.{List, [], _∷_, _++_}
+use mathlib.Core.Logic.{_≢_}
+use Prim.Native.Nat.{ℕ, zero, suc, _+_, _≤_, _<_, min, zero-le}
+use native.Mathlib.Nat.{zero-add}
+use native.Mathlib.Numerals.{add-one}
+use native.Mathlib.Omega.{arith}
+use borrow.Author.Tests.{lt-ltb, le-ltb, eq-eqb, ne-eqb}
+use lib.Dec.{ltb, eqb}
+use lib.ListN.{length, getD, set, drop, length-set}
+use lib.Seq.{sets, set-out, drop-cons}
+use Rattle.words.specs.Words.{Every}
+use Rattle.words.proofs.Tests.{by-le, by-eq}
+use Rattle.forms.specs.declared.Line.{Line}
+use Rattle.forms.specs.declared.Line.the-variants.{Opening, Code, Closed, Done, Wrong}
+use Rattle.forms.specs.Line.{opening, bracket, line-feed, of-code, line-after, kept-after, goes-on, Read, read}
+use Rattle.forms.proofs.Writing.{sets-out}
+use Rattle.forms.specs.Promise.{Lines-read, Others-refused}
+
+-- ONE BYTE of the opening
+pub opening-more : (k n b : ℕ) → n < 5 → getD opening n 0 ≡ b → line-after k (Opening n) b ≡ Opening (n + 1)
+unfolding line-after
+opening-more k n b h e = rw (lt-ltb n 6 (omega arith), eq-eqb (getD opening n 0) b e, ne-eqb n 5 (λ e. omega (arith, e))) refl
+
+pub opening-last : (k n b : ℕ) → n ≡ 5 → getD opening n 0 ≡ b → line-after k (Opening n) b ≡ Code 0
+unfolding line-after
+opening-last k n b h e = rw (lt-ltb n 6 (omega arith), eq-eqb (getD opening n 0) b e, eq-eqb n 5 h) refl
+
+pub opening-wrong : (k n b : ℕ) → getD opening n 0 ≢ b → line-after k (Opening n) b ≡ Wrong
+unfolding line-after
+opening-wrong k n b h = rw (ne-eqb (getD opening n 0) b h) (go (ltb n 6))
+  where
+    go : (t : Bool) → cond (t && false) (cond (eqb n 5) (Code 0) (Opening (n + 1))) Wrong ≡ Wrong
+    go true = refl
+    go false = refl
+
+pub opening-past : (k n b : ℕ) → 6 ≤ n → line-after k (Opening n) b ≡ Wrong
+unfolding line-after
+opening-past k n b h = rw (le-ltb n 6 h) refl
+
+-- one byte of the code: kept, or without room for it; its closing bracket; a line feed
+pub is-of-code : (b : ℕ) → b ≢ bracket → b ≢ line-feed → of-code b ≡ true
+is-of-code b h g = rw (ne-eqb b bracket h, ne-eqb b line-feed g) refl
+
+abbrev After : (line : Line) → (b : ℕ) → (a : List ℕ) → (after : Line) → (kept : List ℕ) → Type 0
+After l b a m c = (m ≡ line-after (length a) l b) × (c ≡ kept-after l b a)
+
+pub code-kept : (n b : ℕ) (a : List ℕ) → of-code b ≡ true → n < length a → After (Code n) b a (Code (n + 1)) (set a n b)
+unfolding line-after kept-after
+code-kept n b a t h = (rw (t, lt-ltb n (length a) h) refl, rw t refl)
+
+pub code-full : (n b : ℕ) (a : List ℕ) → of-code b ≡ true → length a ≤ n → After (Code n) b a (Code n) a
+unfolding line-after kept-after
+code-full n b a t h = (rw (t, le-ltb n (length a) h) refl, rw t (sym (set-out a n b h)))
+
+pub code-closed : (n b : ℕ) (a : List ℕ) → b ≡ bracket → After (Code n) b a (Closed n) a
+unfolding line-after kept-after
+code-closed n b a e = rw e (refl, refl)
+
+pub code-wrong : (n b : ℕ) (a : List ℕ) → b ≡ line-feed → After (Code n) b a Wrong a
+unfolding line-after kept-after
+code-wrong n b a e = rw e (refl, refl)
+
+-- behind the closing bracket
+pub line-done : (n b : ℕ) (a : List ℕ) → b ≡ line-feed → After (Closed n) b a (Done n) a
+unfolding line-after kept-after
+line-done n b a e = rw e (refl, refl)
+
+pub line-wrong : (n b : ℕ) (a : List ℕ) → b ≢ line-feed → After (Closed n) b a Wrong a
+unfolding line-after kept-after
+line-wrong n b a h = rw (ne-eqb b line-feed h) (refl, refl)
+
+-- READING on while the line goes on
+module _ (b : ℕ) (bs a : List ℕ) where
+  pub read-opening : (n : ℕ) → read (Opening n) a (b ∷ bs) ≡ read (line-after (length a) (Opening n) b) a bs
+  unfolding read kept-after
+  read-opening n = refl
+
+  pub read-on : (l m : Line) (c : List ℕ) → goes-on l ≡ true → After l b a m c → read l a (b ∷ bs) ≡ read m c bs
+  unfolding read
+  read-on l m c t h = rw (t, h .0, h .1) refl
+
+-- what stays as it is
+read-wrong : (a bs : List ℕ) → read Wrong a bs .line ≡ Wrong
+unfolding read
+read-wrong a [] = refl
+read-wrong a (b ∷ bs) = refl
+
+read-done : (n : ℕ) (a bs : List ℕ) → read (Done n) a bs ≡ record { line = Done n; kept = a; rest = bs }
+unfolding read
+read-done n a [] = refl
+read-done n a (b ∷ bs) = refl
+
+read-end : (l : Line) (a : List ℕ) → goes-on l ≡ true → read l a [] .line ≡ Wrong
+unfolding read
+read-end l a t = rw t refl
+
+-- THE CODE and the line's end are read
+abbrev read-to : (n : ℕ) → (kept text : List ℕ) → Read
+read-to n a ts = record { line = Done n; kept = a; rest = ts }
+
+code-read : (code text a : List ℕ) (n : ℕ) → n ≤ length a → Every (λ b. of-code b ≡ true) code →
+    read (Code n) a (code ++ bracket ∷ line-feed ∷ text) ≡ read-to (min (n + length code) (length a)) (sets a n code) text
+code-read [] text a n h t =
+    let e : n ≡ min (n + 0) (length a) = omega arith in
+    read-on bracket (line-feed ∷ text) a (Code n) (Closed n) a refl (code-closed n bracket a refl)
+    ∙ read-on line-feed text a (Closed n) (Done n) a refl (line-done n line-feed a refl)
+    ∙ read-done n a text
+    ∙ ap (λ (k : ℕ). read-to k a text) e
+code-read (b ∷ bs) text a n h t =
+    by-le (length a) n
+    (λ (l : length a ≤ n).
+    let e : min (n + length bs) (length a) ≡ min (n + suc (length bs)) (length a) = omega arith in
+    let s : sets a n bs ≡ sets (set a n b) (suc n) bs =
+    sets-out a n bs l ∙ sym (ap (λ (c : List ℕ). sets c (suc n) bs) (set-out a n b l) ∙ sets-out a (suc n) bs (omega arith)) in
+    read-on b (bs ++ bracket ∷ line-feed ∷ text) a (Code n) (Code n) a refl (code-full n b a (t .0) l)
+    ∙ code-read bs text a n h (t .1)
+    ∙ rw (e, s) refl)
+    (λ (l : n < length a).
+    let e : min ((n + 1) + length bs) (length (set a n b)) ≡ min (n + suc (length bs)) (length a) = omega (arith, length-set a n b) in
+    read-on b (bs ++ bracket ∷ line-feed ∷ text) a (Code n) (Code (n + 1)) (set a n b) refl (code-kept n b a (t .0) l)
+    ∙ code-read bs text (set a n b) (n + 1) (omega (arith, length-set a n b)) (t .1)
+    ∙ rw (e, add-one n) refl)
+
+opening-read : (a bs : List ℕ) → read (Opening 0) a (opening ++ bs) ≡ read (Code 0) a bs
+unfolding read line-after kept-after
+opening-read a bs = refl
+
+pub lines-read : Lines-read
+unfolding Lines-read
+lines-read input code text kept f =
+    rw (f .whole)
+    (opening-read kept (code ++ bracket ∷ line-feed ∷ text)
+    ∙ code-read code text kept 0 zero-le (f .inside)
+    ∙ ap (λ (k : ℕ). read-to (min k (length kept)) (sets kept 0 code) text) (zero-add (length code)))
+
+-- NOTHING ELSE is: a line that is not wrong has the opening, a code, its bracket and a line feed
+closed-only : (n : ℕ) (a bs : List ℕ) → ((text : List ℕ) → bs ≡ line-feed ∷ text → ⊥) → read (Closed n) a bs .line ≡ Wrong
+closed-only n a [] h = read-end (Closed n) a refl
+closed-only n a (b ∷ bs) h =
+    by-eq b line-feed
+    (λ (e : b ≡ line-feed). absurd (h bs (ap (λ (c : ℕ). c ∷ bs) e)))
+    (λ (e : b ≢ line-feed). ap (λ (r : Read). r .line) (read-on b bs a (Closed n) Wrong a refl (line-wrong n b a e)) ∙ read-wrong a bs)
+
+code-only : (n : ℕ) (a bs : List ℕ) →
+    ((code text : List ℕ) → Every (λ b. of-code b ≡ true) code → bs ≡ code ++ bracket ∷ line-feed ∷ text → ⊥) →
+    read (Code n) a bs .line ≡ Wrong
+code-only n a [] h = read-end (Code n) a refl
+code-only n a (b ∷ bs) h =
+    by-eq b bracket
+    (λ (e : b ≡ bracket).
+    ap (λ (r : Read). r .line) (read-on b bs a (Code n) (Closed n) a refl (code-closed n b a e))
+    ∙ closed-only n a bs (λ text f. h [] text tt (rw (e, f) refl)))
+    (λ (e : b ≢ bracket).
+    by-eq b line-feed
+    (λ (f : b ≡ line-feed). ap (λ (r : Read). r .line) (read-on b bs a (Code n) Wrong a refl (code-wrong n b a f)) ∙ read-wrong a bs)
+    (λ (f : b ≢ line-feed).
+    let t : of-code b ≡ true = is-of-code b e f in
+    by-le (length a) n
+    (λ (l : length a ≤ n).
+    ap (λ (r : Read). r .line) (read-on b bs a (Code n) (Code n) a refl (code-full n b a t l))
+    ∙ code-only n a bs (λ code text g w. h (b ∷ code) text (t, g) (ap (λ (c : List ℕ). b ∷ c) w)))
+    (λ (l : n < length a).
+    ap (λ (r : Read). r .line) (read-on b bs a (Code n) (Code (n + 1)) (set a n b) refl (code-kept n b a t l))
+    ∙ code-only (n + 1) (set a n b) bs (λ code text g w. h (b ∷ code) text (t, g) (ap (λ (c : List ℕ). b ∷ c) w)))))
+
+-- a byte of the opening, and what is behind it
+opening-split : (n b : ℕ) (bs rest : List ℕ) → n < 6 → getD opening n 0 ≡ b → bs ≡ drop (suc n) opening ++ rest → b ∷ bs ≡ drop n opening ++ rest
+opening-split n b bs rest h e f = rw (drop-cons opening n 0 h, e, f) refl
+
+opening-byte : (n b : ℕ) (a bs : List ℕ) (m : Line) → line-after (length a) (Opening n) b ≡ m → read (Opening n) a (b ∷ bs) .line ≡ read m a bs .line
+opening-byte n b a bs m e = ap (λ (r : Read). r .line) (read-opening b bs a n ∙ ap (λ (l : Line). read l a bs) e)
+
+opening-only : (k n : ℕ) (a bs : List ℕ) → n + suc k ≡ 6 →
+    ((rest : List ℕ) → bs ≡ drop n opening ++ rest → read (Code 0) a rest .line ≡ Wrong) → read (Opening n) a bs .line ≡ Wrong
+opening-only k n a [] m h = read-end (Opening n) a refl
+opening-only zero n a (b ∷ bs) m h =
+    let last : n ≡ 5 = omega arith in
+    by-eq (getD opening n 0) b
+    (λ (e : getD opening n 0 ≡ b).
+    opening-byte n b a bs (Code 0) (opening-last (length a) n b last e) ∙ h bs (opening-split n b bs bs (omega arith) e (rw last refl)))
+    (λ (e : getD opening n 0 ≢ b). opening-byte n b a bs Wrong (opening-wrong (length a) n b e) ∙ read-wrong a bs)
+opening-only (suc k) n a (b ∷ bs) m h =
+    by-eq (getD opening n 0) b
+    (λ (e : getD opening n 0 ≡ b).
+    opening-byte n b a bs (Opening (n + 1)) (opening-more (length a) n b (omega arith) e)
+    ∙ opening-only k (n + 1) a bs (omega arith) (λ rest f. h rest (opening-split n b bs rest (omega arith) e (rw (add-one n) at f))))
+    (λ (e : getD opening n 0 ≢ b). opening-byte n b a bs Wrong (opening-wrong (length a) n b e) ∙ read-wrong a bs)
+
+pub others-refused : Others-refused
+unfolding Others-refused
+others-refused input kept h =
+    opening-only 5 0 kept input refl
+    (λ rest e. code-only 0 kept rest (λ code text t w. h code text (record { whole = e ∙ ap (λ (l : List ℕ). opening ++ l) w; inside = t })))
