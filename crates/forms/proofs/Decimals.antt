@@ -1,11 +1,16 @@
 -- The digits that the kit's `decimal` writes are the fewest, so they are those of the definition. Assumes nothing.
 use mathlib.Core.Path.{_≡_, refl}
-use mathlib.Core.List.{[], _∷_, _++_}
-use Prim.Native.Nat.{ℕ, zero, suc, _+_, _-_, _/_, _%_, _^_, _≤_, _<_}
+use mathlib.Core.List.{List, [], _∷_, _++_}
+use Prim.Native.Nat.{ℕ, zero, suc, _+_, _-_, _/_, _%_, _^_, _≤_, _<_, zero-le}
 use native.Mathlib.Nat.{pow-succ'}
 use native.Mathlib.Omega.{arith}
 use borrow.Author.Tests.{lt-ltb, le-ltb}
-use Rattle.forms.specs.Text.{digits-of, decimal}
+use lib.Dec.{lit≤}
+use lib.ListN.{length, length-append}
+use Rattle.words.proofs.Tests.{by-le}
+use Rattle.words.proofs.Lists.{length-snoc}
+use Rattle.forms.specs.Ascii.{ascii}
+use Rattle.forms.specs.Text.{digits-of, decimal, numbered, place-form, end-form, refused-form}
 use Rattle.io.specs.Digits.{glyph, digits, Fewest}
 
 -- a power of ten is above its exponent
@@ -52,3 +57,49 @@ decimal-is (suc (suc k)) n h =
     let at : suc (suc k) - 1 ≡ suc k = omega arith in
     let low : 10 ^ suc k ≤ n = rw at at (h .2 (omega arith)) in
     digits-fewest (suc (suc k)) (suc n) n (omega (arith, low, power-above (suc k))) h
+
+-- HOW MANY DIGITS: a number below the k-th power of ten has at most k
+digits-few : (f n k : ℕ) → 1 ≤ k → n < 10 ^ k → length (digits-of f n) ≤ k
+unfolding digits-of
+digits-few zero n k h l = zero-le
+digits-few (suc f) n (suc zero) h l = rw (lt-ltb n 10 l) h
+digits-few (suc f) n (suc (suc k)) h l =
+    by-le 10 n
+    (λ (m : 10 ≤ n).
+    rw (le-ltb n 10 m, length-snoc (digits-of f (n / 10)) (48 + n % 10))
+    (omega (arith, digits-few f (n / 10) (suc k) (omega arith) (omega (arith, pow-succ' 10 (suc k))))))
+    (λ (m : n < 10). rw (lt-ltb n 10 m) (omega arith))
+
+pub decimal-few : (n k : ℕ) → 1 ≤ k → n < 10 ^ k → length (decimal n) ≤ k
+unfolding decimal
+decimal-few n k h l = digits-few (suc n) n k h l
+
+-- the forms of numbers of 32 and 64 bits
+numbered-few : (bs : List ℕ) (n k : ℕ) → 1 ≤ k → n < 10 ^ k → length (bs ++ decimal n) ≤ length bs + k
+numbered-few bs n k h l = omega (arith, length-append bs (decimal n), decimal-few n k h l)
+
+pub place-short : (p : ℕ) → p < 2 ^ 32 → length (place-form p) ≤ 16
+unfolding place-form
+place-short p l =
+    omega (arith, length-append (numbered "(at " p) (ascii ")\n"), numbered-few (ascii "(at ") p 10 (lit≤ tt) (omega arith))
+
+pub refused-short : (r : ℕ) → r < 2 ^ 32 → length (refused-form r) ≤ 21
+unfolding refused-form
+refused-short r l =
+    omega (arith, length-append (numbered "(refused " r) (ascii ")\n"), numbered-few (ascii "(refused ") r 10 (lit≤ tt) (omega arith))
+
+pub end-short : (n h c : ℕ) → n < 2 ^ 32 → h < 2 ^ 32 → c < 2 ^ 64 → length (end-form n h c) ≤ 75
+unfolding end-form
+end-short n h c k l m =
+    let a : List ℕ = numbered "(end (bytes " n in
+    let b : List ℕ = numbered ") (hits " h in
+    let d : List ℕ = numbered ") (compares " c in
+    omega (
+      arith,
+      length-append a b,
+      length-append (a ++ b) d,
+      length-append (a ++ b ++ d) (ascii "))\n"),
+      numbered-few (ascii "(end (bytes ") n 10 (lit≤ tt) (omega arith),
+      numbered-few (ascii ") (hits ") h 10 (lit≤ tt) (omega arith),
+      numbered-few (ascii ") (compares ") c 20 (lit≤ tt) (omega arith),
+    )

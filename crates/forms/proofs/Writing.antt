@@ -1,7 +1,7 @@
 -- Bytes written over a buffer's own, as many as have room: one after another, and several at once. Assumes nothing.
 use mathlib.Core.Path.{_≡_, refl, sym, ap, _∙_}
 use mathlib.Core.List.{List, [], _∷_, _++_, append-nil, append-assoc}
-use Prim.Native.Nat.{ℕ, suc, _+_, _-_, _≤_, _<_}
+use Prim.Native.Nat.{ℕ, suc, _+_, _*_, _-_, _≤_, _<_}
 use native.Mathlib.Omega.{arith}
 use native.Mathlib.Numerals.{add-one}
 use lib.ListN.{length, getD, take, set, length-append}
@@ -72,3 +72,13 @@ places-next ps i h f g = rw (add-one i, take-suc ps i 0 h, forms-more (take i ps
 pub places-done : (ps : List ℕ) (i : ℕ) {a b : List ℕ} {at end : ℕ} → length ps ≤ i →
     Written (place-forms (take i ps)) at a end b → Written (place-forms ps) at a end b
 places-done ps i h f = rw (take-all i ps h) at f
+
+pub places-few : (ps : List ℕ) (i : ℕ) → i < length ps →
+    length (place-forms (take i ps)) ≤ 16 * i → length (place-form (getD ps i 0)) ≤ 16 → length (place-forms (take (i + 1) ps)) ≤ 16 * (i + 1)
+places-few ps i h f g =
+    rw (ap (λ (k : ℕ). length (place-forms (take k ps))) (add-one i), take-suc ps i 0 h, forms-more (take i ps) (getD ps i 0))
+    (omega (arith, length-append (place-forms (take i ps)) (place-form (getD ps i 0))))
+
+pub places-all : (ps : List ℕ) (i : ℕ) → length ps ≤ i → i ≤ length ps →
+    length (place-forms (take i ps)) ≤ 16 * i → length (place-forms ps) ≤ 16 * length ps
+places-all ps i h l f = let e : i ≡ length ps = omega arith in rw (take-all i ps h, e) at f

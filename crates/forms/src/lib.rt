@@ -1,6 +1,7 @@
 // The program's forms: the line that its input begins with, and the lines that it prints.
 ghost use mathlib.Core.Path.{_≡_};
 ghost use mathlib.Core.List.{[], _∷_, _++_};
+ghost use Prim.Native.Nat.{_*_, _≤_};
 ghost use lib.ListN.{length};
 ghost use Rattle.forms.specs.Text.{decimal, place-form, place-forms, end-form, refused-form, Written};
 ghost use Rattle.forms.specs.Line.{line-after, kept-after, goes-on};
@@ -114,17 +115,17 @@ fn put_number(buffer: &mut [u8], at: usize, bytes: &[u8], n: u64) -> usize
     put(buffer, mid, &digits[..k])
 }
 
-// Writes the form of a place.
+// Writes the form of a place, of 16 bytes at most.
 fn put_place(buffer: &mut [u8], at: usize, place: u32) -> usize
-    ensures { λ r. ⌜ Written (place-form place) at (now (buffer .entry)) r (now (buffer .exit)) ⌝ }
+    ensures { λ r. ⌜ Written (place-form place) at (now (buffer .entry)) r (now (buffer .exit)) × (length (place-form place) ≤ 16) ⌝ }
 {
     let a = put_number(buffer, at, b"(at ", place as u64);
     put(buffer, a, b")\n")
 }
 
-// Writes the forms of places.
+// Writes the forms of places, each of 16 bytes at most.
 pub fn put_places(buffer: &mut [u8], at: usize, places: &[u32]) -> usize
-    ensures { λ r. ⌜ Written (place-forms (now (places .entry))) at (now (buffer .entry)) r (now (buffer .exit)) ⌝ }
+    ensures { λ r. ⌜ Written (place-forms (now (places .entry))) at (now (buffer .entry)) r (now (buffer .exit)) × (length (place-forms (now (places .entry))) ≤ 16 * length (now (places .entry))) ⌝ }
 {
     let mut end = at;
     let mut i = 0;
@@ -135,9 +136,9 @@ pub fn put_places(buffer: &mut [u8], at: usize, places: &[u32]) -> usize
     end
 }
 
-// Writes the form of a search's end: bytes, places and comparisons.
+// Writes the form of a search's end, of 75 bytes at most: bytes, places and comparisons.
 pub fn put_end(buffer: &mut [u8], at: usize, bytes: u32, hits: u32, compares: u64) -> usize
-    ensures { λ r. ⌜ Written (end-form bytes hits compares) at (now (buffer .entry)) r (now (buffer .exit)) ⌝ }
+    ensures { λ r. ⌜ Written (end-form bytes hits compares) at (now (buffer .entry)) r (now (buffer .exit)) × (length (end-form bytes hits compares) ≤ 75) ⌝ }
 {
     let a = put_number(buffer, at, b"(end (bytes ", bytes as u64);
     let b = put_number(buffer, a, b") (hits ", hits as u64);
@@ -145,9 +146,9 @@ pub fn put_end(buffer: &mut [u8], at: usize, bytes: u32, hits: u32, compares: u6
     put(buffer, c, b"))\n")
 }
 
-// Writes the form of a refusal.
+// Writes the form of a refusal, of 21 bytes at most.
 pub fn put_refused(buffer: &mut [u8], at: usize, number: u32) -> usize
-    ensures { λ r. ⌜ Written (refused-form number) at (now (buffer .entry)) r (now (buffer .exit)) ⌝ }
+    ensures { λ r. ⌜ Written (refused-form number) at (now (buffer .entry)) r (now (buffer .exit)) × (length (refused-form number) ≤ 21) ⌝ }
 {
     let a = put_number(buffer, at, b"(refused ", number as u64);
     put(buffer, a, b")\n")

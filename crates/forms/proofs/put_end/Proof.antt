@@ -1,5 +1,6 @@
 -- `put_end` meets its contract. Assumes nothing.
 use borrow.Author.Needs.{needs}
+use Rattle.forms.proofs.Decimals.{end-short}
 use Rattle.forms.proofs.Writing.{written-on}
 use Rattle.forms.specs.Text.{end-form}
 use Rattle.forms.proofs.put_end.Statement.{statement}
@@ -34,7 +35,9 @@ same-length c = search needs
 
 returns : tie.Need-returns
 unfolding end-form
-returns c = written-on (written-on (written-on (c .before .before .before .before .before .before .before .before .before .before .before .before .before .before .before .before .before .put-number .ensures) (c .before .before .before .before .before .before .before .before .before .before .before .before .put-number2 .ensures)) (c .before .before .before .before .before .before .before .put-number3 .ensures)) (c .before .before .put .ensures)
+returns c =
+    let s = c .before .before .before .before .before .before .before .before .before .before .before .before .before .before .before .before .before .before .before .before .before in
+    (written-on (written-on (written-on (c .before .before .before .before .before .before .before .before .before .before .before .before .before .before .before .before .before .put-number .ensures) (c .before .before .before .before .before .before .before .before .before .before .before .before .put-number2 .ensures)) (c .before .before .before .before .before .before .before .put-number3 .ensures)) (c .before .before .put .ensures), end-short _ _ _ (s .fits .bytes .fits) (s .fits .hits .fits) (s .fits .compares .fits))
 
 pub put-end-spec : {M : Type 1} → statement M
 put-end-spec =

@@ -1,5 +1,6 @@
 -- `put_place` meets its contract. Assumes nothing.
 use borrow.Author.Needs.{needs}
+use Rattle.forms.proofs.Decimals.{place-short}
 use Rattle.forms.proofs.Writing.{written-on}
 use Rattle.forms.specs.Text.{place-form}
 use Rattle.forms.proofs.put_place.Statement.{statement}
@@ -22,7 +23,7 @@ same-length c = search needs
 
 returns : tie.Need-returns
 unfolding place-form
-returns c = written-on (c .before .before .before .before .before .before .before .put-number .ensures) (c .before .before .put .ensures)
+returns c = (written-on (c .before .before .before .before .before .before .before .put-number .ensures) (c .before .before .put .ensures), place-short _ (c .before .before .before .before .before .before .before .before .before .before .before .fits .place .fits))
 
 pub put-place-spec : {M : Type 1} → statement M
 put-place-spec =

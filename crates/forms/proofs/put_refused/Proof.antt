@@ -1,5 +1,6 @@
 -- `put_refused` meets its contract. Assumes nothing.
 use borrow.Author.Needs.{needs}
+use Rattle.forms.proofs.Decimals.{refused-short}
 use Rattle.forms.proofs.Writing.{written-on}
 use Rattle.forms.specs.Text.{refused-form}
 use Rattle.forms.proofs.put_refused.Statement.{statement}
@@ -22,7 +23,7 @@ same-length c = search needs
 
 returns : tie.Need-returns
 unfolding refused-form
-returns c = written-on (c .before .before .before .before .before .before .before .put-number .ensures) (c .before .before .put .ensures)
+returns c = (written-on (c .before .before .before .before .before .before .before .put-number .ensures) (c .before .before .put .ensures), refused-short _ (c .before .before .before .before .before .before .before .before .before .before .before .fits .number .fits))
 
 pub put-refused-spec : {M : Type 1} → statement M
 put-refused-spec =
