@@ -1,0 +1,51 @@
+/* The code finder, as the order desk calls it from C.
+
+   The functions are in the archive that `rt staticlib desk` makes, target/staticlib/libdesk.a, for x86-64 Linux. On the command line the
+   archive comes after the C file:
+
+       gcc desk.c libdesk.a
+
+   ANSWERS. Each function answers its value, which is never negative, or minus the number of the refusal. Of several refusals the lowest number
+   is answered. A call that is refused changes nothing.
+
+   MEMORY. A function reads and writes only what it is lent, during the call, and keeps no pointer and no state: several threads may call at
+   once, as long as no thread changes what another has lent. A pointer must not be null, even with length 0, and must lead to at least as many
+   bytes as the length beside it says. Code and buffer must not overlap. */
+#ifndef FINDER_H
+#define FINDER_H
+
+#include <stddef.h>
+#include <stdint.h>
+
+#ifdef __cplusplus
+extern "C" {
+#endif
+
+/* A code has 1 to 255 bytes, of any values. */
+#define FINDER_LONGEST_CODE 255
+
+/* A buffer of so many bytes is large enough for the sheet of any code; for a code of m bytes 3m + 2 are. */
+#define FINDER_LONGEST_SHEET 767
+
+/* The refusals: the answer is minus one of these. */
+enum finder_refusal {
+    FINDER_NO_CODE = 1,      /* a code of 0 bytes, or length 0 */
+    FINDER_LONG_CODE = 2,    /* a code of more than 255 bytes, or such a length */
+    FINDER_SMALL_BUFFER = 3  /* a buffer of fewer than 3m + 2 bytes, for a code of m bytes */
+};
+
+/* Writes the code's sheet (the automaton's table) to the buffer's start and answers the sheet's length in bytes, at most 3m + 2. Bytes of the
+   buffer behind the sheet are not changed. Refusals 1, 2, 3. */
+int64_t finder_prepare(const uint8_t *code, size_t code_length, uint8_t *buffer, size_t buffer_length);
+
+/* The byte ceiling of a code: reading one byte of a text never takes more comparisons. Refusals 1, 2. */
+int64_t finder_byte_ceiling(const uint8_t *code, size_t code_length);
+
+/* The total ceiling of a code of so many bytes: reading a text of so many bytes never takes more comparisons. Refusals 1, 2. */
+int64_t finder_total_ceiling(uint32_t code_length, uint32_t bytes);
+
+#ifdef __cplusplus
+}
+#endif
+
+#endif

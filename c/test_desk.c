@@ -1,0 +1,411 @@
+/* Compares the entry points of finder.h with a plain implementation, written from document 01's definitions without regard to speed, and with
+   that document's own samples. Memory that is lent has guard bytes on both sides; each call is checked for its answer and for every byte.
+   The first difference ends the test with exit status 1. */
+#include <inttypes.h>
+#include <stdio.h>
+#include <stdlib.h>
+#include <string.h>
+
+#include "finder.h"
+
+/* ---- The plain implementation */
+
+static int64_t plain_refusal(size_t m)
+{
+    return m == 0 ? 1 : m > 255 ? 2 : 0;
+}
+
+/* Whether the first p bytes have a border of length b, for b below p. */
+static int is_border(const uint8_t *code, size_t p, size_t b)
+{
+    return memcmp(code, code + (p - b), b) == 0;
+}
+
+/* The targets of the backward arrows of state p, the largest first; how many. */
+static size_t plain_targets(const uint8_t *code, size_t m, size_t p, uint8_t *targets)
+{
+    uint8_t seen[256] = {0};
+    size_t b, count = 0;
+
+    if (p < m)
+        seen[code[p]] = 1; /* the forward label */
+    for (b = p; b-- > 0;) {
+        if (is_border(code, p, b) && !seen[code[b]]) {
+            seen[code[b]] = 1;
+            targets[count++] = (uint8_t)(b + 1);
+        }
+    }
+    return count;
+}
+
+/* The sheet of an accepted code; its length. */
+static size_t plain_sheet(const uint8_t *code, size_t m, uint8_t *sheet)
+{
+    uint8_t targets[255];
+    size_t p, count, end = 2 * m + 2;
+
+    sheet[0] = (uint8_t)m;
+    memcpy(sheet + 1, code, m);
+    for (p = 0; p <= m; p++) {
+        count = plain_targets(code, m, p, targets);
+        if (end + count > 3 * m + 2) {
+            printf("the plain implementation finds more than m backward arrows\n");
+            exit(1);
+        }
+        memcpy(sheet + end, targets, count);
+        end += count;
+        sheet[m + 1 + p] = (uint8_t)(end - (2 * m + 2));
+    }
+    return end;
+}
+
+static int64_t plain_prepare(const uint8_t *code, size_t m, uint8_t *buffer, size_t room)
+{
+    if (plain_refusal(m) != 0)
+        return -plain_refusal(m);
+    if (room < 3 * m + 2)
+        return -3;
+    return (int64_t)plain_sheet(code, m, buffer);
+}
+
+/* 1 + log2 m rounded down, or the number of different bytes if that is smaller. */
+static int64_t plain_byte_ceiling(const uint8_t *code, size_t m)
+{
+    uint8_t occurs[256] = {0};
+    int64_t log = 0, different = 0;
+    size_t i;
+
+    if (plain_refusal(m) != 0)
+        return -plain_refusal(m);
+    for (i = 0; i < m; i++)
+        occurs[code[i]] = 1;
+    for (i = 0; i < 256; i++)
+        different += occurs[i];
+    while (((size_t)2 << log) <= m)
+        log++;
+    return 1 + log < different ? 1 + log : different;
+}
+
+static int64_t plain_total_ceiling(uint32_t m, uint32_t n)
+{
+    if (plain_refusal(m) != 0)
+        return -plain_refusal(m);
+    return (int64_t)((2 * (uint64_t)m - 1) * n / m);
+}
+
+/* ---- Pseudo-random numbers: xorshift with a fixed seed, so that every run is the same */
+
+static uint64_t random_state = 88172645463325252u;
+
+static uint64_t next_random(void)
+{
+    random_state ^= random_state << 13;
+    random_state ^= random_state >> 7;
+    random_state ^= random_state << 17;
+    return random_state;
+}
+
+static size_t random_below(size_t n)
+{
+    return (size_t)(next_random() % n);
+}
+
+static void fill_random(uint8_t *bytes, size_t n, size_t values)
+{
+    size_t i;
+
+    for (i = 0; i < n; i++)
+        bytes[i] = (uint8_t)random_below(values);
+}
+
+/* ---- Comparing one call */
+
+enum { GUARD = 64, LONG_CODE = 70000, LARGE_BUFFER = 1024 };
+
+static unsigned long calls_compared;
+
+/* What is lent, and what must stand there after the call: a guard, the lent bytes, a guard. */
+static uint8_t code_lent[GUARD + LONG_CODE + GUARD], code_after[sizeof code_lent];
+static uint8_t buffer_lent[GUARD + LARGE_BUFFER + GUARD], buffer_after[sizeof buffer_lent];
+
+static void lend_code(const uint8_t *code, size_t m)
+{
+    fill_random(code_lent, GUARD, 256);
+    memcpy(code_lent + GUARD, code, m);
+    fill_random(code_lent + GUARD + m, GUARD, 256);
+    memcpy(code_after, code_lent, GUARD + m + GUARD);
+}
+
+static void lend_buffer(size_t room)
+{
+    fill_random(buffer_lent, GUARD + room + GUARD, 256);
+    memcpy(buffer_after, buffer_lent, GUARD + room + GUARD);
+}
+
+/* Whether n lent bytes and their guards are as they must be; otherwise says where not. */
+static int memory_good(const char *name, const uint8_t *lent, const uint8_t *after, size_t n)
+{
+    size_t i = 0;
+
+    if (memcmp(lent, after, GUARD + n + GUARD) == 0)
+        return 1;
+    while (lent[i] == after[i])
+        i++;
+    printf("%s of %zu bytes: at %ld stands %02x, expected %02x\n", name, n, (long)i - GUARD, (unsigned)lent[i], (unsigned)after[i]);
+    return 0;
+}
+
+/* Compares the answer to a call that was lent a code of m bytes and a buffer, and what the call left there. */
+static void compare(const char *name, size_t m, size_t room, int64_t answer, int64_t expected)
+{
+    size_t i;
+
+    calls_compared++;
+    if (memory_good("code", code_lent, code_after, m) && memory_good("buffer", buffer_lent, buffer_after, room) && answer == expected)
+        return;
+    printf("%s: answer %" PRId64 ", expected %" PRId64 "; buffer of %zu bytes; code of %zu bytes:", name, answer, expected, room, m);
+    for (i = 0; i < m && i < 256; i++)
+        printf(" %02x", (unsigned)code_after[GUARD + i]);
+    printf("\n");
+    exit(1);
+}
+
+static void compare_prepare(size_t m, size_t room, int64_t expected)
+{
+    compare("finder_prepare", m, room, finder_prepare(code_lent + GUARD, m, buffer_lent + GUARD, room), expected);
+}
+
+static void compare_byte_ceiling(const uint8_t *code, size_t m, int64_t expected)
+{
+    lend_code(code, m);
+    compare("finder_byte_ceiling", m, 0, finder_byte_ceiling(code_lent + GUARD, m), expected);
+}
+
+static void compare_total_ceiling(uint32_t m, uint32_t n, int64_t expected)
+{
+    int64_t answer = finder_total_ceiling(m, n);
+
+    calls_compared++;
+    if (answer == expected)
+        return;
+    printf("finder_total_ceiling of %" PRIu32 " and %" PRIu32 ": answer %" PRId64 ", expected %" PRId64 "\n", m, n, answer, expected);
+    exit(1);
+}
+
+/* ---- Document 01's samples, limits and refusals, as they are written there */
+
+static const uint8_t *bytes(const char *text)
+{
+    return (const uint8_t *)text;
+}
+
+/* Preparing a code in a buffer of so many bytes leaves so many bytes of sheet, or is refused and leaves none. */
+static void sample_prepare(const uint8_t *code, size_t m, size_t room, int64_t answer, const char *sheet)
+{
+    lend_code(code, m);
+    lend_buffer(room);
+    if (answer > 0)
+        memcpy(buffer_after + GUARD, sheet, (size_t)answer);
+    compare_prepare(m, room, answer);
+}
+
+static void check_samples(void)
+{
+    uint8_t many[256];
+
+    memset(many, 'a', sizeof many);
+    sample_prepare(bytes("a"), 1, 5, 5, "\x01\x61\x00\x01\x01");
+    sample_prepare(bytes("aaa"), 3, 11, 9, "\x03\x61\x61\x61\x00\x00\x00\x01\x03");
+    sample_prepare(bytes("aab"), 3, 11, 10, "\x03\x61\x61\x62\x00\x00\x01\x02\x02\x01");
+    sample_prepare(bytes("abaab"), 5, 17, 16, "\x05\x61\x62\x61\x61\x62\x00\x01\x01\x02\x03\x04\x01\x02\x01\x03");
+
+    sample_prepare(bytes(""), 0, 767, -1, "");
+    sample_prepare(bytes(""), 0, 0, -1, "");
+    sample_prepare(many, 256, 770, -2, "");
+    sample_prepare(many, 256, 0, -2, "");
+    sample_prepare(bytes("aab"), 3, 10, -3, "");
+    sample_prepare(many, 255, 766, -3, "");
+
+    compare_byte_ceiling(bytes("aaaa"), 4, 1);
+    compare_byte_ceiling(bytes("abac"), 4, 3);
+    compare_byte_ceiling(bytes(""), 0, -1);
+    compare_byte_ceiling(many, 255, 1);
+    compare_byte_ceiling(many, 256, -2);
+
+    compare_total_ceiling(2, 4, 6);
+    compare_total_ceiling(4, 4, 7);
+    compare_total_ceiling(5, 0, 0);
+    compare_total_ceiling(2, 3, 4);
+    compare_total_ceiling(255, 255, 509);
+    compare_total_ceiling(255, 256, 510);
+    compare_total_ceiling(0, 5, -1);
+    compare_total_ceiling(256, 5, -2);
+}
+
+/* ---- The plain implementation's answers */
+
+static void check_prepare(const uint8_t *code, size_t m, size_t room)
+{
+    lend_code(code, m);
+    lend_buffer(room);
+    compare_prepare(m, room, plain_prepare(code, m, buffer_after + GUARD, room));
+}
+
+/* Both functions that take a code, preparing with several buffers. */
+static void check_code(const uint8_t *code, size_t m)
+{
+    compare_byte_ceiling(code, m, plain_byte_ceiling(code, m));
+    check_prepare(code, m, 0);
+    if (m <= FINDER_LONGEST_CODE) {
+        check_prepare(code, m, 3 * m + 1);
+        check_prepare(code, m, 3 * m + 2);
+        check_prepare(code, m, 3 * m + 2 + random_below(100));
+    }
+    check_prepare(code, m, LARGE_BUFFER);
+}
+
+/* Every code of up to so many bytes over the first few of these values. */
+static void check_all_short(size_t values, size_t longest)
+{
+    static const uint8_t value[] = {0x61, 0x00, 0xff, 0x80};
+    uint8_t digit[16] = {0}, code[16];
+    size_t m, i;
+
+    for (m = 1; m <= longest; m++) {
+        do {
+            for (i = 0; i < m; i++)
+                code[i] = value[digit[i]];
+            check_code(code, m);
+            for (i = 0; i < m && ++digit[i] == values; i++)
+                digit[i] = 0;
+        } while (i < m);
+    }
+}
+
+/* The exponent of 2 in n, for n of 1 or more. */
+static uint8_t twos(size_t n)
+{
+    uint8_t k = 0;
+
+    while (n % 2 == 0) {
+        n /= 2;
+        k++;
+    }
+    return k;
+}
+
+/* The Fibonacci word abaababaabaab..: each stage is the stage before, followed by the one before that. Its starts have many borders. */
+static void fill_fibonacci(uint8_t *code, size_t m)
+{
+    size_t i, last = 2, before = 1;
+
+    code[0] = 'a';
+    code[1] = 'b';
+    for (i = 2; i < m; i++) {
+        if (i == last + before) {
+            last += before;
+            before = last - before;
+        }
+        code[i] = code[i - last];
+    }
+}
+
+/* Codes with many borders or none, of every length. */
+static void check_regular(void)
+{
+    uint8_t code[255];
+    size_t m, i, period;
+
+    for (m = 1; m <= 255; m++) {
+        memset(code, 'a', m); /* a..a */
+        check_code(code, m);
+        code[m - 1] = 'b'; /* a..ab */
+        check_code(code, m);
+        memset(code, 'b', m); /* ab..b */
+        code[0] = 'a';
+        check_code(code, m);
+        for (i = 0; i < m; i++)
+            code[i] = (uint8_t)i; /* all different */
+        check_code(code, m);
+        for (i = 0; i < m; i++)
+            code[i] = (uint8_t)('a' + twos(i + 1)); /* the ruler: abacabad.. */
+        check_code(code, m);
+        for (period = 2; period <= 5; period++) {
+            for (i = 0; i < m; i++)
+                code[i] = (uint8_t)('a' + (i % period == 0)); /* baabaa.. */
+            check_code(code, m);
+        }
+    }
+    fill_fibonacci(code, 255);
+    for (m = 1; m <= 255; m++)
+        check_code(code, m);
+}
+
+/* Random codes over few or many values, and random words repeated, with one byte changed or none. */
+static void check_random(int count)
+{
+    uint8_t code[255];
+    size_t m, i, period;
+
+    while (count-- > 0) {
+        m = 1 + random_below(255);
+        fill_random(code, m, 1 + random_below(count % 2 ? 4 : 256));
+        check_code(code, m);
+        period = 1 + random_below(m);
+        for (i = period; i < m; i++)
+            code[i] = code[i - period];
+        check_code(code, m);
+        code[random_below(m)] ^= 1;
+        check_code(code, m);
+    }
+}
+
+/* Codes that are too long, also by lengths whose last bytes are those of a good one. */
+static void check_too_long(void)
+{
+    static const size_t length[] = {256, 257, 258, 300, 511, 512, 1000, 65535, 65536, 65537, 65541, LONG_CODE};
+    static uint8_t code[LONG_CODE];
+    size_t i;
+
+    fill_random(code, LONG_CODE, 256);
+    check_code(code, 0);
+    for (i = 0; i < sizeof length / sizeof *length; i++)
+        check_code(code, length[i]);
+}
+
+/* Lengths and byte counts at their limits, and random ones. */
+static void check_total_ceilings(void)
+{
+    static const uint32_t limit[] = {65535, 65536, 65537, 16777216, 2147483647, 2147483648u, 4294967040u, 4294967294u, 4294967295u};
+    const size_t limits = sizeof limit / sizeof *limit;
+    uint32_t m, n;
+    size_t i, j;
+
+    for (m = 0; m <= 300; m++) {
+        for (n = 0; n <= 600; n++)
+            compare_total_ceiling(m, n, plain_total_ceiling(m, n));
+        for (i = 0; i < limits; i++)
+            compare_total_ceiling(m, limit[i], plain_total_ceiling(m, limit[i]));
+        for (i = 0; i < 100; i++) {
+            n = (uint32_t)next_random();
+            compare_total_ceiling(m, n, plain_total_ceiling(m, n));
+        }
+    }
+    for (i = 0; i < limits; i++)
+        for (j = 0; j < limits; j++)
+            compare_total_ceiling(limit[i], limit[j], plain_total_ceiling(limit[i], limit[j]));
+}
+
+int main(void)
+{
+    check_samples();
+    check_all_short(2, 11);
+    check_all_short(3, 7);
+    check_all_short(4, 6);
+    check_regular();
+    check_random(1000);
+    check_too_long();
+    check_total_ceilings();
+    printf("test_desk: %lu calls compared, no difference\n", calls_compared);
+    return 0;
+}
