@@ -32,6 +32,15 @@ struct Cutting {
     room: usize,
 }
 
+// A cutting of three numbers.
+fn cut(first: usize, size: usize, room: usize) -> Cutting {
+    Cutting {
+        first: first,
+        size: size,
+        room: room,
+    }
+}
+
 // A run of calls so far: the watch, the machine, where the piece ends, where the naive search goes on, whether the text is done,
 // and whether all was right.
 struct Run {
@@ -166,11 +175,7 @@ fn is_prepared(code: &[u8], sheet: &mut [u8]) -> bool {
 
 // The cuttings, by number: the first piece of 0 to 4 bytes, the others of 1 to 4, lists of 1 to 3.
 fn numbered(number: usize) -> Cutting {
-    Cutting {
-        first: number % 5,
-        size: 1 + number / 5 % 4,
-        room: 1 + number / 20 % 3,
-    }
+    cut(number % 5, 1 + number / 5 % 4, 1 + number / 20 % 3)
 }
 
 // A text in each cutting.
@@ -254,18 +259,18 @@ fn all_codes(letters: usize, codes: usize, texts: usize) -> Tally
     t
 }
 
-// All codes of 1 to 6 bytes in all texts of 0 to 8 bytes, over two letters.
+// All codes of 1 to 6 bytes in all texts of 0 to 7 bytes, over two letters.
 pub fn two_letters() -> Tally
     ensures { λ r. ⌜ r .wrong ≤ r .run ⌝ }
 {
-    all_codes(2, 127, 511)
+    all_codes(2, 127, 255)
 }
 
-// All codes of 1 to 4 bytes in all texts of 0 to 5 bytes, over three letters.
+// All codes of 1 to 3 bytes in all texts of 0 to 5 bytes, over three letters.
 pub fn three_letters() -> Tally
     ensures { λ r. ⌜ r .wrong ≤ r .run ⌝ }
 {
-    all_codes(3, 121, 364)
+    all_codes(3, 40, 364)
 }
 
 // The next number of the generator.
@@ -321,45 +326,9 @@ fn one_long(code: &[u8], letters: usize, number: usize, before: Tally) -> Tally
     let a = add(before, is_prepared(code, &mut sheet));
     let mut text = [0u8; 600];
     put_text(&mut text, code, letters, number);
-    let b = add(
-        a,
-        is_right(
-            code,
-            &sheet,
-            &text,
-            Cutting {
-                first: 1,
-                size: 1,
-                room: 1,
-            },
-        ),
-    );
-    let c = add(
-        b,
-        is_right(
-            code,
-            &sheet,
-            &text,
-            Cutting {
-                first: 100,
-                size: 37,
-                room: 2,
-            },
-        ),
-    );
-    add(
-        c,
-        is_right(
-            code,
-            &sheet,
-            &text,
-            Cutting {
-                first: 600,
-                size: 1,
-                room: 8,
-            },
-        ),
-    )
+    let b = add(a, is_right(code, &sheet, &text, cut(1, 1, 1)));
+    let c = add(b, is_right(code, &sheet, &text, cut(100, 37, 2)));
+    add(c, is_right(code, &sheet, &text, cut(600, 1, 8)))
 }
 
 // The long code of a number: 3 to 255 bytes of 1 to 4 letters with a period of 1 to 19, which the last byte breaks in every other code.

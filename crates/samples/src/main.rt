@@ -11,9 +11,10 @@ use finder::Ending;
 use finder::Feeding;
 use finder::Watch;
 
-// What the bytes of a lent buffer and the numbers of a lent list are before a call.
+// What each byte of a lent buffer is before a call.
 const UNTOUCHED: u8 = 238;
 
+// What each number of a lent list is before a call: no place of any text here.
 const UNWRITTEN: u32 = 4000000000;
 
 // How many samples were run, and how many of them came out otherwise than they should.

@@ -144,12 +144,17 @@ pub fn refused() -> Tally
     )
 }
 
-// Codes and lengths that are accepted on the other side, with the total ceiling's examples.
+// The limits and a new watch; codes and lengths that are accepted on the other side, with the total ceiling's examples.
 fn accepted_codes() -> Tally
     ensures { λ r. ⌜ r .wrong ≤ r .run ⌝ }
 {
     let many = [97u8; 255];
     let mut t = none();
+    t = add(
+        t,
+        (Watch::LONGEST_CODE == 255) & (Watch::LONGEST_TEXT == 4294967295),
+    );
+    t = add(t, same_watch(Watch::open(), watch_of(0, 0, 0, 0)));
     t = add(t, prepare_answers(513, &many, 767));
     t = add(t, value(codes::byte_ceiling(&many)) == 1);
     t = add(t, value(codes::total_ceiling(255, 255)) == 509);
@@ -167,18 +172,12 @@ pub fn accepted() -> Tally
     ensures { λ r. ⌜ r .wrong ≤ r .run ⌝ }
 {
     let open = Watch::open();
-    let last = watch_of(0, 4294967295, 0, 0);
+    let one = watch_of(1, 1, 1, 1);
+    let behind = b"\x01\x61\x00\x01\x01\xff";
+    let before_last = watch_of(0, 4294967294, 0, 0);
+    let last = watch_of(1, 4294967295, 1, 1);
     let mut t = accepted_codes();
-    t = add(
-        t,
-        feed_answers(
-            watch_of(1, 1, 1, 1),
-            &[0],
-            b"\x01\x61\x00\x01\x01\xff",
-            open,
-            b"a",
-        ),
-    );
+    t = add(t, feed_answers(one, &[0], behind, open, b"a"));
     t = add(
         t,
         feed_answers(
@@ -199,19 +198,10 @@ pub fn accepted() -> Tally
             b"z",
         ),
     );
+    t = add(t, feed_answers(one, &[0], &SHEET, open, b"a"));
     t = add(
         t,
-        feed_answers(watch_of(1, 1, 1, 1), &[0], &SHEET, open, b"a"),
-    );
-    t = add(
-        t,
-        feed_answers(
-            watch_of(1, 4294967295, 1, 1),
-            &[4294967294],
-            &SHEET,
-            watch_of(0, 4294967294, 0, 0),
-            b"a",
-        ),
+        feed_answers(last, &[4294967294], &SHEET, before_last, b"a"),
     );
     add(t, feed_answers(last, &[], &SHEET, last, b""))
 }
