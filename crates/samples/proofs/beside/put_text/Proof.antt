@@ -1,4 +1,4 @@
--- `put_text` meets its contract. The loop counts. Assumes nothing.
+-- `put_text` meets its contract, which promises nothing: it is safe and ends. The loop keeps the length of the slice lent to it. The measure is what is left to count. Assumes nothing.
 use mathlib.Core.Path.{_≡_}
 use Prim.Native.Nat.{_-_}
 use borrow.Author.Needs.{needs}
