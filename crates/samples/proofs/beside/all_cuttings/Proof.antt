@@ -1,0 +1,50 @@
+-- `all_cuttings` meets its contract. The loop keeps that no more samples are wrong than were run. The measure is what is left to count. Assumes nothing.
+use Prim.Native.Nat.{_-_, _≤_}
+use borrow.Author.Needs.{needs}
+use Rattle.samples.proofs.beside.all_cuttings.Statement.{statement}
+use Rattle.samples.proofs.beside.all_cuttings.Tie as tie
+
+abbrev Inv-loop : tie.InvT-loop
+Inv-loop code sheet text t₀ number₀ t number = t .wrong ≤ t .run
+
+abbrev μ-loop : tie.MeasureT-loop
+μ-loop code sheet text t₀ number₀ t number = 60 - number
+
+loop-holds : tie.Need-loop-holds Inv-loop μ-loop
+loop-holds c = search needs
+
+numbered-requires : tie.Need-numbered-requires Inv-loop μ-loop
+numbered-requires c κs = search needs
+
+is-right-requires : tie.Need-is-right-requires Inv-loop μ-loop
+is-right-requires c κs = search needs
+
+add-requires : tie.Need-add-requires Inv-loop μ-loop
+add-requires c κs = search needs
+
+add-number : tie.Need-add-number Inv-loop μ-loop
+add-number c = search needs
+
+loop-less : tie.Need-loop-less Inv-loop μ-loop
+loop-less c = search needs
+
+loop-again : tie.Need-loop-again Inv-loop μ-loop
+loop-again c = search needs
+
+returns : tie.Need-returns Inv-loop μ-loop
+returns c = search needs
+
+pub all-cuttings-spec : {M : Type 1} → statement M
+all-cuttings-spec =
+    tie.close
+    (tie.spec
+    Inv-loop
+    μ-loop
+    loop-holds
+    numbered-requires
+    is-right-requires
+    add-requires
+    add-number
+    loop-less
+    loop-again
+    returns)

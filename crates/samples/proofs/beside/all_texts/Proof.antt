@@ -1,0 +1,34 @@
+-- `all_texts` meets its contract. The loop keeps that no more samples are wrong than were run. The measure is what is left to count. Assumes nothing.
+use Prim.Native.Nat.{_-_, _≤_}
+use borrow.Author.Needs.{needs}
+use Rattle.samples.proofs.beside.all_texts.Statement.{statement}
+use Rattle.samples.proofs.beside.all_texts.Tie as tie
+
+abbrev Inv-loop : tie.InvT-loop
+Inv-loop code sheet letters end t₀ number₀ t number = t .wrong ≤ t .run
+
+abbrev μ-loop : tie.MeasureT-loop
+μ-loop code sheet letters end t₀ number₀ t number = end - number
+
+loop-holds : tie.Need-loop-holds Inv-loop μ-loop
+loop-holds c = search needs
+
+one-text-requires : tie.Need-one-text-requires Inv-loop μ-loop
+one-text-requires c κs = search needs
+
+add-number : tie.Need-add-number Inv-loop μ-loop
+add-number c = search needs
+
+loop-less : tie.Need-loop-less Inv-loop μ-loop
+loop-less c = search needs
+
+loop-again : tie.Need-loop-again Inv-loop μ-loop
+loop-again c = search needs
+
+returns : tie.Need-returns Inv-loop μ-loop
+returns c = search needs
+
+pub all-texts-spec : {M : Type 1} → statement M
+all-texts-spec =
+    tie.close
+    (tie.spec Inv-loop μ-loop loop-holds one-text-requires add-number loop-less loop-again returns)
