@@ -50,7 +50,7 @@ as-called w x e (suc n) r a l =
 
 module _ (w rest : List ℕ) (good : accepted w ≡ true) where
   -- 4 and 5 never come up
-  same-refusal : (x : Watch) (c : Call) → fit (length w) x ≡ true →
+  pub same-refusal : (x : Watch) (c : Call) → fit (length w) x ≡ true →
       feed-refusal (sheet w ++ rest) x (length (c .piece)) (c .room) ≡ call-refusal c (x .taken)
   unfolding feed-refusal call-refusal first-refusal refused-if
   same-refusal x c fits = rw (sheet-begins w rest good, sheet-named, fits)
