@@ -7,13 +7,14 @@ use Prim.Native.Nat.{ℕ, _*_, _/_, _≤_, _<_}
 use lib.ListN.{length, take, drop}
 use Rattle.words.specs.Words.{member, Rising}
 use Rattle.codes.specs.Codes.{code-refusal, accepted}
+use Rattle.finder.specs.declared.Watch.{Watch}
 use Rattle.finder.specs.Feed.{longest-text}
 use Rattle.finder.specs.Machine.{costs, sum}
 use Rattle.finder.specs.Promise.{places-in}
 use Rattle.forms.specs.Text.{place-forms, end-form, refused-form}
 use Rattle.forms.specs.Promise.{Of-form}
 use Rattle.find.specs.Printed.{piece-size}
-use Rattle.find.specs.Output.{output}
+use Rattle.find.specs.Output.{text-output, Taken, Turns-of, printed-by, pieces-of, output}
 
 -- the places of a code in a text
 abbrev pub places : (code text : List ℕ) → List ℕ
@@ -51,3 +52,7 @@ unfoldable pub Output-long : Type 0
 Output-long =
     (input code text : List ℕ) → Of-form input code text → accepted code ≡ true → longest-text < length text →
     output input ≡ place-forms (places code (front text)) ++ refused-form 7
+
+-- TURN BY TURN: what the turns of the loop write is what `output` says of their pieces
+unfoldable pub Turns-print : Type 0
+Turns-print = (sheet : List ℕ) (es : List Taken) (x : Watch) → Turns-of sheet es x → printed-by es ≡ text-output sheet (pieces-of es) x

@@ -5,7 +5,7 @@ ghost use mathlib.Core.Path.{_≡_};
 ghost use Prim.Native.Nat.{_+_, _*_, _≤_};
 ghost use lib.ListN.{length};
 ghost use Rattle.finder.specs.Entry.{ending-refusal};
-ghost use Rattle.find.specs.Printed.{Within, code-refusal, code-sheet, line-refusal, line-sheet, room, Piece-taken};
+ghost use Rattle.find.specs.Printed.{Within, prepared-refusal, prepared-sheet, line-refusal, line-sheet, room, Piece-taken};
 use codes::Answer;
 use finder::Ending;
 use finder::Watch;
@@ -111,7 +111,7 @@ fn read_line(kept: &mut [u8; 256]) -> Start {
 
 // Prepares the sheet of the first n bytes that were kept; the refusal, 0 for none.
 fn prepare_code(kept: &[u8], n: usize, sheet: &mut [u8]) -> u32
-    ensures { λ r. ⌜ (r ≡ code-refusal (now (kept .entry)) n (length (now (sheet .entry)))) × (now (sheet .exit) ≡ code-sheet (now (kept .entry)) n (now (sheet .entry))) ⌝ }
+    ensures { λ r. ⌜ (r ≡ prepared-refusal (now (kept .entry)) n (length (now (sheet .entry)))) × (now (sheet .exit) ≡ prepared-sheet (now (kept .entry)) n (now (sheet .entry))) ⌝ }
 {
     if kept.len() < n {
         return 8;
