@@ -16,8 +16,8 @@ use Rattle.words.proofs.Tests.{by-le, by-eq}
 use Rattle.forms.specs.declared.Line.{Line}
 use Rattle.forms.specs.declared.Line.the-variants.{Opening, Code, Closed, Done, Wrong}
 use Rattle.forms.specs.Line.{opening, bracket, line-feed, of-code, line-after, kept-after, goes-on, Read, read}
-use Rattle.forms.proofs.Writing.{sets-out}
 use Rattle.forms.specs.Promise.{Lines-read, Others-refused}
+use Rattle.forms.proofs.Writing.{sets-out}
 
 -- ONE BYTE of the opening
 pub opening-more : (k n b : ℕ) → n < 5 → getD opening n 0 ≡ b → line-after k (Opening n) b ≡ Opening (n + 1)

@@ -3,6 +3,7 @@ ghost use mathlib.Core.Path.{_≡_};
 ghost use mathlib.Core.List.{[], _∷_, _++_};
 ghost use Prim.Native.Nat.{_*_, _≤_};
 ghost use lib.ListN.{length};
+ghost use Rattle.forms.specs.Ascii.{ascii};
 ghost use Rattle.forms.specs.Text.{decimal, place-form, place-forms, end-form, refused-form, Written};
 ghost use Rattle.forms.specs.Line.{line-after, kept-after, goes-on};
 
@@ -115,12 +116,19 @@ fn put_number(buffer: &mut [u8], at: usize, bytes: &[u8], n: u64) -> usize
     put(buffer, mid, &digits[..k])
 }
 
+// Writes a form with one number: bytes, the number, a closing bracket and a line feed.
+fn put_form(buffer: &mut [u8], at: usize, bytes: &[u8], n: u64) -> usize
+    ensures { λ r. ⌜ Written (now (bytes .entry) ++ decimal n ++ ascii ")\n") at (now (buffer .entry)) r (now (buffer .exit)) ⌝ }
+{
+    let end = put_number(buffer, at, bytes, n);
+    put(buffer, end, b")\n")
+}
+
 // Writes the form of a place, of 16 bytes at most.
 fn put_place(buffer: &mut [u8], at: usize, place: u32) -> usize
     ensures { λ r. ⌜ Written (place-form place) at (now (buffer .entry)) r (now (buffer .exit)) × (length (place-form place) ≤ 16) ⌝ }
 {
-    let a = put_number(buffer, at, b"(at ", place as u64);
-    put(buffer, a, b")\n")
+    put_form(buffer, at, b"(at ", place as u64)
 }
 
 // Writes the forms of places, each of 16 bytes at most.
@@ -150,6 +158,5 @@ pub fn put_end(buffer: &mut [u8], at: usize, bytes: u32, hits: u32, compares: u6
 pub fn put_refused(buffer: &mut [u8], at: usize, number: u32) -> usize
     ensures { λ r. ⌜ Written (refused-form number) at (now (buffer .entry)) r (now (buffer .exit)) × (length (refused-form number) ≤ 21) ⌝ }
 {
-    let a = put_number(buffer, at, b"(refused ", number as u64);
-    put(buffer, a, b")\n")
+    put_form(buffer, at, b"(refused ", number as u64)
 }

@@ -182,19 +182,25 @@ fn ending(f: Feeding) -> u32 {
     }
 }
 
-// The naive search.
-
-// Whether the code stands in the text at an offset.
-fn stands(code: &[u8], text: &[u8], offset: usize) -> bool {
-    if text.len() < offset || text.len() - offset < code.len() {
+// Whether the first n bytes of a text end with the first p bytes of the code.
+fn ends_with(text: &[u8], n: usize, code: &[u8], p: usize) -> bool {
+    if n < p {
         return false;
     }
-    for i in 0..code.len() {
-        if at(text, offset + i) != at(code, i) {
+    for i in 0..p {
+        if at(text, n - p + i) != at(code, i) {
             return false;
         }
     }
     true
+}
+
+// The naive search.
+
+// Whether the code stands in the text at an offset.
+fn stands(code: &[u8], text: &[u8], offset: usize) -> bool {
+    let end = sum(offset, code.len());
+    end <= text.len() && ends_with(text, end, code, code.len())
 }
 
 // The first offset from a given one on at which the code stands, the text's length where there is none.
@@ -210,19 +216,6 @@ fn next_place(code: &[u8], text: &[u8], from: usize) -> usize {
 }
 
 // The plain counting.
-
-// Whether the first n bytes of a text end with the first p bytes of the code.
-fn ends_with(text: &[u8], n: usize, code: &[u8], p: usize) -> bool {
-    if n < p {
-        return false;
-    }
-    for i in 0..p {
-        if at(text, n - p + i) != at(code, i) {
-            return false;
-        }
-    }
-    true
-}
 
 // The state of the first n bytes of a text: the length of the longest start of the code that they end with.
 fn state_of(code: &[u8], text: &[u8], n: usize) -> usize {

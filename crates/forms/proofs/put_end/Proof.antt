@@ -1,8 +1,8 @@
 -- `put_end` meets its contract. Assumes nothing.
 use borrow.Author.Needs.{needs}
+use Rattle.forms.specs.Text.{end-form}
 use Rattle.forms.proofs.Decimals.{end-short}
 use Rattle.forms.proofs.Writing.{written-on}
-use Rattle.forms.specs.Text.{end-form}
 use Rattle.forms.proofs.put_end.Statement.{statement}
 use Rattle.forms.proofs.put_end.Tie as tie
 

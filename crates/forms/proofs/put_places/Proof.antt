@@ -4,8 +4,8 @@ use Prim.Native.Nat.{_*_, _-_, _≤_, zero-le}
 use native.Mathlib.Omega.{arith}
 use borrow.Author.Needs.{needs}
 use lib.ListN.{length, take}
-use Rattle.forms.proofs.Writing.{written-none, places-next, places-done, places-few, places-all}
 use Rattle.forms.specs.Text.{place-forms, Written}
+use Rattle.forms.proofs.Writing.{written-none, places-next, places-done, places-few, places-all}
 use Rattle.forms.proofs.put_places.Statement.{statement}
 use Rattle.forms.proofs.put_places.Tie as tie
 
