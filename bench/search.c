@@ -319,7 +319,7 @@ static void print_head(void)
     printf("| %-19s | %-17s |   m | %8s |", "Text", "Code", "places");
     for (int f = 0; f < FINDERS; f++)
         printf(" %7s |", names[f]);
-    printf(" Rattle/C | comp./byte | ceiling | dearest | ceiling |\n");
+    printf(" Rattle/C | comp./byte | (2m-1)/m | dearest | ceiling |\n");
     printf("|---|---|--:|--:|");
     for (int f = 0; f < FINDERS; f++)
         printf("--:|");
@@ -331,7 +331,7 @@ static void print_row(const struct job *j, const struct found *r, const double *
     printf("| %-19s | %-17s | %3zu | %8llu |", j->text_name, j->code_name, m, (unsigned long long)r->hits);
     for (int f = 0; f < FINDERS; f++)
         print_speed(best[f], present[f], f >= GREP && r->overlap ? "*" : "");
-    printf(" %8.2f | %10.4f | %7.4f | %7llu | %7u |\n", best[TWIN] / best[RATTLE], (double)r->compares / (double)n,
+    printf(" %8.2f | %10.4f | %8.4f | %7llu | %7u |\n", best[TWIN] / best[RATTLE], (double)r->compares / (double)n,
            (2.0 * (double)m - 1) / (double)m, (unsigned long long)dearest(), byte_ceiling());
     fflush(stdout);
 }
@@ -347,7 +347,7 @@ static void print_notes(int rounds)
     printf("grep -F -o -b -a and rg with the same options: whole processes that read a file and print, in lines; of overlapping places they report only "
            "some (*).\n");
     printf("Where no places overlap theirs are the same too. A code with a line feed cannot be given to them; none here has one.\n");
-    printf("comp./byte: comparisons per byte of text, Rattle and twin equal; its ceiling (2m - 1)/m. dearest: the dearest of the first %d bytes; its ceiling.\n",
+    printf("comp./byte: comparisons per byte of text, the same in Rattle and twin, at most (2m-1)/m. dearest: those of the dearest of the first %d bytes; its ceiling.\n",
            DEAREST_IN);
 }
 
