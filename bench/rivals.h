@@ -1,0 +1,16 @@
+/* The rivals that are written in C: the twin and KMP. */
+#ifndef RIVALS_H
+#define RIVALS_H
+
+#include "speed.h"
+
+/* The C twin does what the proved finder does, comparison for comparison and refusal for refusal. */
+preparer twin_prepare;
+feeder twin_feed;
+
+/* Knuth, Morris and Pratt's search with the strong failure links, over the same watch. It takes the code from the sheet and trusts its links, which
+ * kmp_prepare made for that code; it tests neither sheet nor watch. */
+void kmp_prepare(const uint8_t *code, size_t m);
+feeder kmp_feed;
+
+#endif

@@ -1,0 +1,21 @@
+/* The texts of the benchmark, made from a fixed seed. */
+#ifndef TEXTS_H
+#define TEXTS_H
+
+#include <stddef.h>
+#include <stdint.h>
+
+/* Fills n bytes. */
+typedef void text_maker(uint8_t *text, size_t n);
+
+text_maker plan_text;      /* lines like those of a bakery's production plans, with recipe codes */
+text_maker one_letter;     /* aaaa.. */
+text_maker ab_text;        /* ab^254 again and again */
+text_maker fibonacci_word; /* abaababa.., the fixed point of a -> ab, b -> a */
+text_maker ruler_word;     /* abacabadabacaba.., letters a to h: the i-th, counted from 1, is the number of times that 2 divides i */
+text_maker ruler_unknown;  /* the same with ! for h */
+text_maker random_2;       /* random letters a and b */
+text_maker random_4;       /* random letters a to d */
+text_maker random_256;     /* random bytes */
+
+#endif

@@ -1,0 +1,45 @@
+-- The answers of preparing and feeding as plain numbers, for C. Assumes nothing: these are definitions.
+use mathlib.Core.Path.{_≡_}
+use mathlib.Core.List.{List}
+use Prim.Native.Nat.{ℕ}
+use lib.ListN.{length}
+use Rattle.codes.specs.declared.Answer.{Answer}
+use Rattle.codes.specs.Refusals.{answer-refusal, answer-value}
+use Rattle.codes.specs.Entry.{prepare-answer, prepare-buffer}
+use Rattle.finder.specs.declared.Watch.{Watch}
+use Rattle.finder.specs.declared.Feeding.{Feeding}
+use Rattle.finder.specs.Entry.{ending-refusal, ending-full, feed-answer, feed-places}
+use Rattle.speed.specs.declared.Prepared.{Prepared}
+use Rattle.speed.specs.declared.Fed.{Fed}
+
+-- the answer of preparing: the sheet's length, 0 if refused, and document 01's number, 0 for none
+abbrev pub prepared-numbers : Answer → Prepared
+prepared-numbers a = record { length = answer-value a; refusal = answer-refusal a }
+
+-- what `speed_prepare` promises of its answer and of the buffer after it
+pub record Prepare-says (code : List ℕ) (answer : Prepared) (buffer buffer-after : List ℕ) : Type 0 where
+  pub answers : answer ≡ prepared-numbers (prepare-answer code (length buffer))
+  pub leaves : buffer-after ≡ prepare-buffer code buffer
+
+-- a watch from its four numbers
+abbrev pub watch-of : (state taken hits compares : ℕ) → Watch
+watch-of p n h c = record { state = p; taken = n; hits = h; compares = c }
+
+-- the answer of feeding: the watch, the bytes taken and the places written in this call, and the ending
+abbrev pub fed-numbers : Feeding → Fed
+fed-numbers f =
+    record {
+      state = f .watch .state;
+      taken = f .watch .taken;
+      hits = f .watch .hits;
+      read = f .taken;
+      compares = f .watch .compares;
+      written = f .written;
+      refusal = ending-refusal (f .ending);
+      full = ending-full (f .ending);
+    }
+
+-- what `speed_feed` promises of its answer and of the list after it
+pub record Feed-says (sheet : List ℕ) (x : Watch) (piece : List ℕ) (answer : Fed) (list list-after : List ℕ) : Type 0 where
+  pub answers : answer ≡ fed-numbers (feed-answer sheet x piece (length list))
+  pub leaves : list-after ≡ feed-places sheet x piece list
