@@ -7,5 +7,6 @@ pub mod Endings
 pub mod Entries
 pub mod Reading
 pub mod Turns
+pub mod Walking
 pub mod Taking
 pub mod Samples

@@ -11,7 +11,7 @@ use lib.Dec.{eqb}
 use lib.ListN.{length, getD, drop}
 use lib.Seq.{drop-cons}
 use Rattle.words.specs.Words.{byte}
-use Rattle.words.proofs.Tests.{by-eq}
+use Rattle.words.proofs.Tests.{by-eq, by-le}
 use Rattle.automaton.specs.declared.Step.{Step}
 use Rattle.automaton.specs.declared.Arrow.the-variants.{Forward, Nothing}
 use Rattle.automaton.specs.Arrows.{step, try-forward, try-back, stepped}
@@ -24,8 +24,9 @@ use Rattle.automaton.proofs.ByteCeiling.{byte-below}
 use Rattle.codes.specs.Codes.{longest-code}
 use Rattle.codes.specs.Sheet.{named}
 use Rattle.finder.specs.declared.Watch.{Watch}
+use Rattle.finder.specs.declared.Turn.{Turn}
 use Rattle.finder.specs.Feed.{place-if, reported, with-byte, Fed, fed-more, feed}
-use Rattle.finder.specs.Inside.{Ready, completed, with-step, missed, Skipped, Turning, Turned}
+use Rattle.finder.specs.Inside.{Ready, completed, with-run, missed, Skipped, Turning, Turned}
 use Rattle.finder.proofs.Places.{place-one}
 use Rattle.finder.proofs.Reading.{read-code}
 
@@ -40,9 +41,11 @@ module _ (m : ℕ) (x : Watch) where
   completed-none n = rw (ne-eqb (x .state) m n)
 
 -- ONE BYTE is one step
-pub step-byte : (w : List ℕ) (c : ℕ) (x : Watch) → with-step (length w) (stepped w (x .state) c) x ≡ with-byte w c x
-unfolding with-step with-byte reported
-step-byte w c x = refl
+pub step-byte : (w : List ℕ) (c : ℕ) (x : Watch) →
+    let s = stepped w (x .state) c in
+    with-run (length w) 1 (s .state) (s .cost) x ≡ with-byte w c x
+unfolding with-run with-byte reported
+step-byte w c x = rw (add-one (x .taken)) refl
 
 reported-completed : (w : List ℕ) (c : ℕ) (x : Watch) → reported w c x ≡ completed (length w) (with-byte w c x)
 unfolding reported completed with-byte
@@ -100,12 +103,34 @@ module _ (w piece : List ℕ) (i : ℕ) (h : i < length piece) (x y : Watch) (e 
 
 -- A TURN of one byte
 pub turned-byte : {bs : List ℕ} {m : ℕ} {x : Watch} {piece : List ℕ} {i : ℕ} → Turning bs m x piece i → (s : Step) (y : Watch) →
-    s ≡ stepped (named bs) (x .state) (getD piece i 0) → y ≡ with-step m s x → Turned (named bs) piece x i (record { watch = y; at = i + 1 })
+    s ≡ stepped (named bs) (x .state) (getD piece i 0) → y ≡ with-run m 1 (s .state) (s .cost) x →
+    Turned (named bs) piece x i (record { watch = y; at = i + 1 })
 turned-byte {bs} {m} {x} {piece} {i} t s y step-is y-is =
     let w : List ℕ = named bs in
     turned-one w piece i (t .inside) x y
-    (y-is ∙ ap (λ (k : ℕ). with-step k s x) (t .m-is) ∙ ap (λ (q : Step). with-step (length w) q x) step-is ∙ step-byte w (getD piece i 0) x)
+    (y-is
+    ∙ ap (λ (k : ℕ). with-run k 1 (s .state) (s .cost) x) (t .m-is)
+    ∙ ap (λ (q : Step). with-run (length w) 1 (q .state) (q .cost) x) step-is
+    ∙ step-byte w (getD piece i 0) x)
     (t .on .few) (rw (t .m-is) at (t .ready))
+
+-- ONE TURN AFTER ANOTHER, where the first completes no place
+pub turned-on : {w piece : List ℕ} {x : Watch} {i : ℕ} {t u : Turn} → Turned w piece x i t → t .watch .state ≢ length w →
+    Turned w piece (t .watch) (t .at) u → Turned w piece x i u
+turned-on {w} {piece} {x} {i} {t} {u} a short b =
+    let none : completed (length w) (t .watch) ≡ [] = completed-none (length w) (t .watch) short in
+    let last : List ℕ = completed (length w) (u .watch) in
+    let all : t .at - i + (u .at - t .at) ≡ u .at - i = omega (arith, a .later, b .later) in
+    record {
+      later = omega (arith, a .later, b .later);
+      within = b .within;
+      ready = b .ready;
+      feeds = λ k.
+          rw (none, sub-zero (suc k)) at (a .feeds k)
+          ∙ ap (fed-more (t .at - i) []) (b .feeds k)
+          ∙ more-more (t .at - i) (u .at - t .at) [] last (feed w (drop (u .at) piece) (suc k - length last) (u .watch))
+          ∙ ap (λ (n : ℕ). fed-more n last (feed w (drop (u .at) piece) (suc k - length last) (u .watch))) all;
+    }
 
 -- STATE 0: one comparison with the code's first byte
 module _ (w : List ℕ) (c : ℕ) (some : 1 ≤ length w) where
@@ -197,7 +222,7 @@ module _ {bs : List ℕ} {m : ℕ} {x : Watch} {piece : List ℕ} {i : ℕ} (t :
       let none : completed (length w) y ≡ [] = completed-none (length w) y (λ z. omega arith) in
       record { later = omega arith; within = omega arith; ready = ready; feeds = λ k. rw (none, sub-zero (suc k)) (passed k) }
 
-  pub turned-start : j < length piece → (q : Step) (z : Watch) → q ≡ stepped (named bs) 0 (getD piece j 0) → z ≡ with-step m q (missed (j - i) x) →
+  pub turned-start : j < length piece → (q : Step) (z : Watch) → q ≡ stepped (named bs) 0 (getD piece j 0) → z ≡ with-run m 1 (q .state) (q .cost) (missed (j - i) x) →
       Turned (named bs) piece x i (record { watch = z; at = j + 1 })
   turned-start found q z q-is z-is =
       let b = bounds in
@@ -216,20 +241,62 @@ module _ {bs : List ℕ} {m : ℕ} {x : Watch} {piece : List ℕ} {i : ℕ} (t :
             ∙ ap (λ (a : ℕ). fed-more a last (feed w (drop (j + 1) piece) (suc k - length last) z)) all;
       }
 
--- THE WATCH AFTER A STEP, by whether the code is complete
-module _ (m : ℕ) (s : Step) (x : Watch) (h : ℕ) where
-  pub stepped-hit : s .state ≡ m → h ≡ x .hits + 1 →
-      _≡_ {A = Watch} (record { state = s .state; taken = x .taken + 1; hits = h; compares = x .compares + s .cost }) (with-step m s x)
-  unfolding with-step place-if
-  stepped-hit e q = simp (eq-eqb (s .state) m e, add-one, q)
+-- THE WATCH AFTER A RUN of bytes, by whether the code is complete
+module _ (m n q cost : ℕ) (x : Watch) (h : ℕ) where
+  abbrev after : Watch
+  after = record { state = q; taken = x .taken + n; hits = h; compares = x .compares + cost }
 
-  pub stepped-miss : s .state ≢ m → h ≡ x .hits →
-      _≡_ {A = Watch} (record { state = s .state; taken = x .taken + 1; hits = h; compares = x .compares + s .cost }) (with-step m s x)
-  unfolding with-step place-if
-  stepped-miss n q = simp (ne-eqb (s .state) m n, add-one, add-zero, q)
+  pub run-hit : q ≡ m → h ≡ x .hits + 1 → after ≡ with-run m n q cost x
+  unfolding with-run place-if
+  run-hit e r = simp (eq-eqb q m e, r)
+
+  pub run-miss : q ≢ m → h ≡ x .hits → after ≡ with-run m n q cost x
+  unfolding with-run place-if
+  run-miss e r = simp (ne-eqb q m e, add-zero, r)
+
+-- a run and one byte more are a run
+pub run-more : (m n q c p d : ℕ) (x : Watch) → q ≢ m → with-run m 1 p d (with-run m n q c x) ≡ with-run m (n + 1) p (c + d) x
+unfolding with-run place-if
+run-more m n q c p d x e =
+    let t : x .taken + n + 1 ≡ x .taken + (n + 1) = omega arith in
+    let k : x .compares + c + d ≡ x .compares + (c + d) = omega arith in
+    rw (ne-eqb q m e, t, k, add-zero (x .hits)) refl
 
 -- THE SEARCH for the code's first byte: none of the bytes passed is it
 pub skipped-more : (piece : List ℕ) (from byte i : ℕ) → ((j : ℕ) → from ≤ j → j < i → getD piece j 0 ≢ byte) → getD piece i 0 ≢ byte →
     (j : ℕ) → from ≤ j → j < i + 1 → getD piece j 0 ≢ byte
 skipped-more piece from byte i f n j lo hi =
     by-eq j i (λ (e : j ≡ i). rw e n) (λ (e : j ≢ i). f j lo (omega arith))
+
+-- LOOKING ON in fours: the byte looked for stands one, two or three places behind i, or it is none of the four
+module _ (piece : List ℕ) (from byte i : ℕ) (lo : from ≤ i) (f : (j : ℕ) → from ≤ j → j < i → getD piece j 0 ≢ byte) (n1 : getD piece i 0 ≢ byte) where
+  pub skipped-1 : i + 1 < length piece → getD piece (i + 1) 0 ≡ byte → Skipped piece from byte (i + 1)
+  skipped-1 room e =
+      record { on = omega arith; within = omega arith; others = skipped-more piece from byte i f n1; found = λ h. e }
+
+  module _ (n2 : getD piece (i + 1) 0 ≢ byte) where
+    two : (j : ℕ) → from ≤ j → j < i + 2 → getD piece j 0 ≢ byte
+    two j l h = by-eq j (i + 1) (λ (e : j ≡ i + 1). rw e n2) (λ (e : j ≢ i + 1). skipped-more piece from byte i f n1 j l (omega arith))
+
+    pub skipped-2 : i + 2 < length piece → getD piece (i + 2) 0 ≡ byte → Skipped piece from byte (i + 2)
+    skipped-2 room e = record { on = omega arith; within = omega arith; others = two; found = λ h. e }
+
+    module _ (n3 : getD piece (i + 2) 0 ≢ byte) where
+      three : (j : ℕ) → from ≤ j → j < i + 3 → getD piece j 0 ≢ byte
+      three j l h = by-eq j (i + 2) (λ (e : j ≡ i + 2). rw e n3) (λ (e : j ≢ i + 2). two j l (omega arith))
+
+      pub skipped-3 : i + 3 < length piece → getD piece (i + 3) 0 ≡ byte → Skipped piece from byte (i + 3)
+      skipped-3 room e = record { on = omega arith; within = omega arith; others = three; found = λ h. e }
+
+      pub skipped-four : getD piece (i + 3) 0 ≢ byte → (j : ℕ) → from ≤ j → j < i + 4 → getD piece j 0 ≢ byte
+      skipped-four n4 j l h = by-eq j (i + 3) (λ (e : j ≡ i + 3). rw e n4) (λ (e : j ≢ i + 3). three j l (omega arith))
+
+pub skipped-on : (piece : List ℕ) (from byte i r : ℕ) → from ≤ i → ((j : ℕ) → from ≤ j → j < i → getD piece j 0 ≢ byte) →
+    Skipped piece i byte r → Skipped piece from byte r
+skipped-on piece from byte i r lo f s =
+    record {
+      on = omega (arith, s .on);
+      within = s .within;
+      others = λ j l h. by-le i j (λ (e : i ≤ j). s .others j e h) (λ (e : j < i). f j l e);
+      found = s .found;
+    }

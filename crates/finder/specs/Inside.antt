@@ -5,7 +5,6 @@ use mathlib.Core.Logic.{_≢_}
 use Prim.Native.Nat.{ℕ, suc, _+_, _*_, _-_, _^_, _≤_, _<_}
 use lib.Dec.{eqb}
 use lib.ListN.{length, getD, drop}
-use Rattle.automaton.specs.declared.Step.{Step}
 use Rattle.codes.specs.Codes.{longest-code}
 use Rattle.codes.specs.Sheet.{sheet, named, in-front}
 use Rattle.finder.specs.declared.Watch.{Watch}
@@ -32,14 +31,14 @@ pub record Ready (m : ℕ) (x : Watch) (n : ℕ) : Type 0 where
 unfoldable pub completed : (m : ℕ) → Watch → List ℕ
 completed m x = place-if (eqb (x .state) m) (x .taken - m)
 
--- the watch after a step
-unfoldable pub with-step : (m : ℕ) → Step → Watch → Watch
-with-step m s x =
+-- the watch after n bytes that led to state q at a cost, the last of which may have completed a place
+unfoldable pub with-run : (m n q cost : ℕ) → Watch → Watch
+with-run m n q cost x =
     record {
-      state = s .state;
-      taken = suc (x .taken);
-      hits = x .hits + length (place-if (eqb (s .state) m) (suc (x .taken) - m));
-      compares = x .compares + s .cost;
+      state = q;
+      taken = x .taken + n;
+      hits = x .hits + length (place-if (eqb q m) (x .taken + n - m));
+      compares = x .compares + cost;
     }
 
 -- in state 0, n bytes that follow no arrow: one comparison each

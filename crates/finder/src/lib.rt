@@ -8,7 +8,7 @@ ghost use Rattle.codes.specs.Codes.{longest-code};
 ghost use Rattle.codes.specs.Sheet.{named};
 ghost use Rattle.finder.specs.Feed.{longest-text, opened, fit};
 ghost use Rattle.finder.specs.Entry.{feed-refusal, Feed-says};
-ghost use Rattle.finder.specs.Inside.{On-sheet, Ready, with-step, Skipped, Turning, Turned, Took};
+ghost use Rattle.finder.specs.Inside.{On-sheet, Ready, with-run, Skipped, Turning, Turned, Took};
 use automaton::Arrow;
 use automaton::Step;
 use codes::is_sheet;
@@ -115,22 +115,22 @@ fn follow(sheet: &[u8], p: usize, byte: u8) -> Step
     forward_step(sheet, m, p, byte, cost)
 }
 
-// The watch after a step, for a code of m bytes.
-fn after_step(x: Watch, m: u32, s: Step) -> Watch
-    requires { ⌜ (x .taken < longest-text) × (x .hits ≤ x .taken) × (x .compares < 2 ^ 63) ⌝ }
-    ensures { λ r. ⌜ r ≡ with-step m s x ⌝ }
+// The watch after n bytes that led to a state at a cost, for a code of m bytes. Only the last of them may have completed it.
+fn after_run(x: Watch, m: u32, n: u32, state: u32, cost: u64) -> Watch
+    requires { ⌜ (1 ≤ n) × (x .taken + n ≤ longest-text) × (x .hits ≤ x .taken) × (x .compares + cost < 2 ^ 64) ⌝ }
+    ensures { λ r. ⌜ r ≡ with-run m n state cost x ⌝ }
 {
-    let hits = if s.state == m { x.hits + 1 } else { x.hits };
+    let hits = if state == m { x.hits + 1 } else { x.hits };
     Watch {
-        state: s.state,
-        taken: x.taken + 1,
+        state: state,
+        taken: x.taken + n,
         hits: hits,
-        compares: x.compares + (s.cost as u64),
+        compares: x.compares + cost,
     }
 }
 
 // The first place from a place on where a byte stands, or the end: one comparison for each byte passed, and one for the byte found.
-fn skip(piece: &[u8], from: usize, byte: u8) -> usize
+fn skip_one(piece: &[u8], from: usize, byte: u8) -> usize
     requires { ⌜ from ≤ length (now piece) ⌝ }
     ensures { λ r. ⌜ Skipped (now (piece .entry)) from byte r ⌝ }
 {
@@ -142,6 +142,31 @@ fn skip(piece: &[u8], from: usize, byte: u8) -> usize
         i += 1;
     }
     i
+}
+
+// The same, four bytes to a turn, each compared once and in order: 1.1 to 1.4 times as fast on plan text (bench/).
+fn skip(piece: &[u8], from: usize, byte: u8) -> usize
+    requires { ⌜ from ≤ length (now piece) ⌝ }
+    ensures { λ r. ⌜ Skipped (now (piece .entry)) from byte r ⌝ }
+{
+    let size = piece.len();
+    let mut i = from;
+    while size - i >= 4 {
+        if piece[i] == byte {
+            return i;
+        }
+        if piece[i + 1] == byte {
+            return i + 1;
+        }
+        if piece[i + 2] == byte {
+            return i + 2;
+        }
+        if piece[i + 3] == byte {
+            return i + 3;
+        }
+        i += 4;
+    }
+    skip_one(piece, i, byte)
 }
 
 // The step from state 0 on the code's first byte, which `skip` has compared already.
@@ -180,12 +205,34 @@ fn from_start(sheet: &[u8], m: u32, x: Watch, piece: &[u8], i: usize) -> Turn
     }
     let s = first_step(sheet, piece[j]);
     Turn {
-        watch: after_step(y, m, s),
+        watch: after_run(y, m, 1, s.state, s.cost as u64),
         at: j + 1,
     }
 }
 
-// One turn: in state 0 all bytes up to the code's first, in any other state one byte.
+// From another state: one byte, and on as long as the state is neither 0 nor m and bytes are left. Here only the state and the cost are kept from
+// byte to byte, which makes worst cases 1.2 to 1.4 times as fast (bench/).
+fn walk(sheet: &[u8], m: u32, x: Watch, piece: &[u8], from: usize) -> Turn
+    requires { ⌜ Turning (now sheet) m x (now piece) from × (1 ≤ x .state) ⌝ }
+    ensures { λ r. ⌜ Turned (named (now (sheet .entry))) (now (piece .entry)) x from r ⌝ }
+{
+    let first = follow(sheet, x.state as usize, piece[from]);
+    let mut state = first.state;
+    let mut cost = first.cost as u64;
+    let mut i = from + 1;
+    while i < piece.len() && 0 < state && state < m {
+        let s = follow(sheet, state as usize, piece[i]);
+        state = s.state;
+        cost += s.cost as u64;
+        i += 1;
+    }
+    Turn {
+        watch: after_run(x, m, (i - from) as u32, state, cost),
+        at: i,
+    }
+}
+
+// One turn of the loop over a piece.
 fn advance(sheet: &[u8], m: u32, x: Watch, piece: &[u8], i: usize) -> Turn
     requires { ⌜ Turning (now sheet) m x (now piece) i ⌝ }
     ensures { λ r. ⌜ Turned (named (now (sheet .entry))) (now (piece .entry)) x i r ⌝ }
@@ -193,11 +240,7 @@ fn advance(sheet: &[u8], m: u32, x: Watch, piece: &[u8], i: usize) -> Turn
     if x.state == 0 {
         return from_start(sheet, m, x, piece, i);
     }
-    let s = follow(sheet, x.state as usize, piece[i]);
-    Turn {
-        watch: after_step(x, m, s),
-        at: i + 1,
-    }
+    walk(sheet, m, x, piece, i)
 }
 
 // The bytes of a piece, until it ends or the list is full.
