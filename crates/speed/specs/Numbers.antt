@@ -17,7 +17,7 @@ abbrev pub prepared-numbers : Answer → Prepared
 prepared-numbers a = record { length = answer-value a; refusal = answer-refusal a }
 
 -- what `speed_prepare` promises of its answer and of the buffer after it
-pub record Prepare-says (code : List ℕ) (answer : Prepared) (buffer buffer-after : List ℕ) : Type 0 where
+pub record Prepare-told (code : List ℕ) (answer : Prepared) (buffer buffer-after : List ℕ) : Type 0 where
   pub answers : answer ≡ prepared-numbers (prepare-answer code (length buffer))
   pub leaves : buffer-after ≡ prepare-buffer code buffer
 
@@ -40,6 +40,6 @@ fed-numbers f =
     }
 
 -- what `speed_feed` promises of its answer and of the list after it
-pub record Feed-says (sheet : List ℕ) (x : Watch) (piece : List ℕ) (answer : Fed) (list list-after : List ℕ) : Type 0 where
+pub record Feed-told (sheet : List ℕ) (x : Watch) (piece : List ℕ) (answer : Fed) (list list-after : List ℕ) : Type 0 where
   pub answers : answer ≡ fed-numbers (feed-answer sheet x piece (length list))
   pub leaves : list-after ≡ feed-places sheet x piece list

@@ -2,7 +2,7 @@
 ghost use mathlib.Core.Path.{_≡_};
 ghost use Rattle.codes.specs.Refusals.{answer-refusal, answer-value};
 ghost use Rattle.finder.specs.Entry.{ending-refusal, ending-full};
-ghost use Rattle.speed.specs.Numbers.{prepared-numbers, Prepare-says, watch-of, fed-numbers, Feed-says};
+ghost use Rattle.speed.specs.Numbers.{prepared-numbers, Prepare-told, watch-of, fed-numbers, Feed-told};
 use codes::Answer;
 use codes::prepare;
 use finder::Ending;
@@ -103,7 +103,7 @@ fn fed_numbers(f: Feeding) -> Fed
 // Prepares the sheet of a code.
 #[no_mangle]
 pub extern "C" fn speed_prepare(code: &[u8], buffer: &mut [u8]) -> Prepared
-    ensures { λ r. ⌜ Prepare-says (now (code .entry)) r (now (buffer .entry)) (now (buffer .exit)) ⌝ }
+    ensures { λ r. ⌜ Prepare-told (now (code .entry)) r (now (buffer .entry)) (now (buffer .exit)) ⌝ }
 {
     prepared_numbers(prepare(code, buffer))
 }
@@ -119,7 +119,7 @@ pub extern "C" fn speed_feed(
     piece: &[u8],
     places: &mut [u32],
 ) -> Fed
-    ensures { λ r. ⌜ Feed-says (now (sheet .entry)) (watch-of state taken hits compares) (now (piece .entry)) r (now (places .entry)) (now (places .exit)) ⌝ }
+    ensures { λ r. ⌜ Feed-told (now (sheet .entry)) (watch-of state taken hits compares) (now (piece .entry)) r (now (places .entry)) (now (places .exit)) ⌝ }
 {
     fed_numbers(feed(
         sheet,
