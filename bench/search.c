@@ -1,4 +1,4 @@
-/* search MB REPETITIONS FILE [PROGRAM..]: every finder on every text; prints one table. FILE is for the texts that the programs grep and rg read. */
+/* search MB ROUNDS FILE [PROGRAM..]: every finder on every text; prints one table. FILE is for the texts that the programs grep and rg read. */
 #define _GNU_SOURCE
 #include <math.h>
 #include <stdio.h>
@@ -362,8 +362,9 @@ static void print_notes(int rounds)
            "each.\n",
            rounds, patience, (double)n / 1e6);
     printf("Rattle/C: Rattle's speed to the C twin's, the median of the rounds.\n");
-    printf("Rattle, C twin, KMP: in memory, pieces of %d bytes, a list of %d places. Rattle and the twin verify the sheet at each call; KMP trusts its links.\n", PIECE,
-           LIST);
+    printf("Rattle, C twin, KMP: in memory, pieces of %d bytes, a list of %d places. Rattle and the twin verify the sheet at each call; KMP trusts its links.\n"
+           "In state 0 Rattle looks at four bytes a turn, the twin at one.\n",
+           PIECE, LIST);
     printf("memmem: glibc's, in memory, the whole text, on from one byte behind each place. All four report overlapping places, and report the same ones.\n");
     printf("grep -F -o -b -a and rg with the same options: whole processes that read a file and print, in lines; of overlapping places they report only "
            "some (*).\n");

@@ -159,9 +159,9 @@ int main(int argc, char **argv)
         print_row(&jobs[k], places, "/dev/null", present, rounds);
         print_row(&jobs[k], places, output_path, present, rounds);
     }
-    printf("\nMilliseconds on the clock, and of processor time in brackets, of whole processes on %.0f MB from a file; best of %d rounds. find/C: ratio of the\n"
-           "speeds by processor time. Both finds write the same bytes. grep stops at the first place where its output is /dev/null: not timed there.\n",
-           (double)n / 1e6, rounds);
+    printf("\nMilliseconds on the clock, and of processor time in brackets, of whole processes on %.0f MB from a file; best of %d rounds (a program that needs over %.0f s: fewer).\n"
+           "find/C: ratio of the best speeds by processor time. Both finds write the same bytes. grep stops at the first place where its output is /dev/null: not timed there.\n",
+           (double)n / 1e6, rounds, patience);
     remove(input_path);
     remove(output_path);
     remove(other_path);

@@ -1,5 +1,5 @@
 // find: reads `(code X)`, a line feed and a text from standard input, and prints each place of X in the text, then what was counted.
-// Every byte that is printed is decided by proved functions, here and in `forms`, `codes` and `finder`; main and the loops below it read, call
+// Every byte that is printed is decided by proved functions, here and in `forms`, `codes` and `finder`; main and its loops read, call
 // them and write.
 ghost use mathlib.Core.Path.{_≡_};
 ghost use Prim.Native.Nat.{_+_, _*_, _≤_};
@@ -93,7 +93,7 @@ fn read_byte(line: Line, kept: &mut [u8; 256]) -> Start {
     }
 }
 
-// The first line, a byte at a time, so that the text begins where the line ends.
+// The first line, a byte at a time, so that the text begins where the line ends. The turns only show that the loop ends: no input has so many bytes.
 fn read_line(kept: &mut [u8; 256]) -> Start {
     let mut start = Start {
         line: Line::Opening(0),
@@ -109,7 +109,7 @@ fn read_line(kept: &mut [u8; 256]) -> Start {
     start
 }
 
-// Prepares the sheet of the first n bytes that were kept; the refusal, 0 for none.
+// Prepares the sheet of the first n bytes that were kept; the refusal, 0 for none, 8 if fewer were kept.
 fn prepare_code(kept: &[u8], n: usize, sheet: &mut [u8]) -> u32
     ensures { λ r. ⌜ (r ≡ prepared-refusal (now (kept .entry)) n (length (now (sheet .entry)))) × (now (sheet .exit) ≡ prepared-sheet (now (kept .entry)) n (now (sheet .entry))) ⌝ }
 {

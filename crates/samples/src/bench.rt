@@ -1,5 +1,5 @@
 // Document 01's bench samples and its errors near at hand. Each is a call with the document's bytes and numbers.
-// Those that it marks P are also proved, in the finder's table of samples.
+// Those that it marks P are also proved, in the finder's table of samples; beside.rt runs the same codes and texts beside the naive search.
 ghost use Prim.Native.Nat.{_≤_};
 use crate::Tally;
 use crate::UNTOUCHED;

@@ -190,11 +190,36 @@ fn all_cuttings(code: &[u8], sheet: &[u8], text: &[u8], before: Tally) -> Tally
     t
 }
 
-// A number's last digit, and what stands before it.
+// A code and a text: its sheet, and the text in each cutting.
+fn one_sample(code: &[u8], text: &[u8], before: Tally) -> Tally
+    requires { ⌜ before .wrong ≤ before .run ⌝ }
+    ensures { λ r. ⌜ r .wrong ≤ r .run ⌝ }
+{
+    let mut sheet = [UNTOUCHED; 767];
+    let t = add(before, is_prepared(code, &mut sheet));
+    all_cuttings(code, &sheet, text, t)
+}
+
+// The codes and texts of the bench samples and of the errors near at hand.
+pub fn bench_texts() -> Tally
+    ensures { λ r. ⌜ r .wrong ≤ r .run ⌝ }
+{
+    let mut t = none();
+    t = one_sample(b"aa", b"aaaa", t);
+    t = one_sample(b"ab", b"abab", t);
+    t = one_sample(b"abac", b"abaz", t);
+    t = one_sample(b"abaab", b"abaababaab", t);
+    t = one_sample(b"abaab", b"", t);
+    t = one_sample(b"ab", b"aab", t);
+    one_sample(b"ab", b"aaa", t)
+}
+
+// A number's last digit in a base.
 fn digit(number: usize, base: usize) -> usize {
     if base == 0 { 0 } else { number % base }
 }
 
+// What stands before it.
 fn without_digit(number: usize, base: usize) -> usize {
     if base == 0 { 0 } else { number / base }
 }
@@ -331,7 +356,7 @@ fn one_long(code: &[u8], letters: usize, number: usize, before: Tally) -> Tally
     add(c, is_right(code, &sheet, &text, cut(600, 1, 8)))
 }
 
-// The long code of a number: 3 to 255 bytes of 1 to 4 letters with a period of 1 to 19, which the last byte breaks in every other code.
+// The long code of a number: 3 to 255 bytes of 1 to 4 letters with a period of 1 to 19; in every other code the last byte is 255.
 fn long_code(number: usize, before: Tally) -> Tally
     requires { ⌜ before .wrong ≤ before .run ⌝ }
     ensures { λ r. ⌜ r .wrong ≤ r .run ⌝ }

@@ -404,6 +404,7 @@ fn main() {
     let errors = bench::errors();
     let refused = refusals::refused();
     let accepted = refusals::accepted();
+    let texts = beside::bench_texts();
     let two = beside::two_letters();
     let three = beside::three_letters();
     let long = beside::long_codes();
@@ -412,6 +413,7 @@ fn main() {
     print(b"errors near at hand", errors);
     print(b"refused", refused);
     print(b"accepted on the other side", accepted);
+    print(b"their codes and texts, cut", texts);
     print(b"all short codes and texts of two letters", two);
     print(b"all short codes and texts of three letters", three);
     print(b"long codes and texts", long);
@@ -419,8 +421,11 @@ fn main() {
         sum(sheets.wrong, searches.wrong),
         sum(errors.wrong, refused.wrong),
     );
-    let b = sum(sum(accepted.wrong, two.wrong), sum(three.wrong, long.wrong));
+    let b = sum(
+        sum(accepted.wrong, texts.wrong),
+        sum(two.wrong, three.wrong),
+    );
     io::write_all(1, b"wrong ");
-    io::print_decimal(1, sum(a, b) as u64);
+    io::print_decimal(1, sum(sum(a, b), long.wrong) as u64);
     io::write_all(1, b"\n");
 }
