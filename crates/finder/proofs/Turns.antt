@@ -262,41 +262,38 @@ run-more m n q c p d x e =
     let k : x .compares + c + d ≡ x .compares + (c + d) = omega arith in
     rw (ne-eqb q m e, t, k, add-zero (x .hits)) refl
 
--- THE SEARCH for the code's first byte: none of the bytes passed is it
-pub skipped-more : (piece : List ℕ) (from byte i : ℕ) → ((j : ℕ) → from ≤ j → j < i → getD piece j 0 ≢ byte) → getD piece i 0 ≢ byte →
-    (j : ℕ) → from ≤ j → j < i + 1 → getD piece j 0 ≢ byte
-skipped-more piece from byte i f n j lo hi =
-    by-eq j i (λ (e : j ≡ i). rw e n) (λ (e : j ≢ i). f j lo (omega arith))
+-- THE SEARCH for a byte: it is none of those passed, from a place on up to i
+pub record Passed (piece : List ℕ) (from byte i : ℕ) : Type 0 where
+  pub on : from ≤ i
+  pub within : i ≤ length piece
+  pub others : (j : ℕ) → from ≤ j → j < i → getD piece j 0 ≢ byte
 
--- LOOKING ON in fours: the byte looked for stands one, two or three places behind i, or it is none of the four
-module _ (piece : List ℕ) (from byte i : ℕ) (lo : from ≤ i) (f : (j : ℕ) → from ≤ j → j < i → getD piece j 0 ≢ byte) (n1 : getD piece i 0 ≢ byte) where
-  pub skipped-1 : i + 1 < length piece → getD piece (i + 1) 0 ≡ byte → Skipped piece from byte (i + 1)
-  skipped-1 room e =
-      record { on = omega arith; within = omega arith; others = skipped-more piece from byte i f n1; found = λ h. e }
+pub passed-none : {piece : List ℕ} {from : ℕ} (byte : ℕ) → from ≤ length piece → Passed piece from byte from
+passed-none {piece} {from} byte h =
+    record { on = omega arith; within = h; others = λ j lo hi. absurd (omega arith) }
 
-  module _ (n2 : getD piece (i + 1) 0 ≢ byte) where
-    two : (j : ℕ) → from ≤ j → j < i + 2 → getD piece j 0 ≢ byte
-    two j l h = by-eq j (i + 1) (λ (e : j ≡ i + 1). rw e n2) (λ (e : j ≢ i + 1). skipped-more piece from byte i f n1 j l (omega arith))
+module _ {piece : List ℕ} {from byte i : ℕ} (p : Passed piece from byte i) where
+  -- one byte more, up to k
+  pub passed-next : (k : ℕ) → k ≡ i + 1 → i < length piece → getD piece i 0 ≢ byte → Passed piece from byte k
+  passed-next k e h n =
+      record {
+        on = omega (arith, p .on);
+        within = omega arith;
+        others = λ j lo hi. by-eq j i (λ (f : j ≡ i). rw f n) (λ (f : j ≢ i). p .others j lo (omega arith));
+      }
 
-    pub skipped-2 : i + 2 < length piece → getD piece (i + 2) 0 ≡ byte → Skipped piece from byte (i + 2)
-    skipped-2 room e = record { on = omega arith; within = omega arith; others = two; found = λ h. e }
+  -- it is found, the piece ends, or another search goes on
+  pub passed-found : getD piece i 0 ≡ byte → Skipped piece from byte i
+  passed-found e = record { on = p .on; within = p .within; others = p .others; found = λ h. e }
 
-    module _ (n3 : getD piece (i + 2) 0 ≢ byte) where
-      three : (j : ℕ) → from ≤ j → j < i + 3 → getD piece j 0 ≢ byte
-      three j l h = by-eq j (i + 2) (λ (e : j ≡ i + 2). rw e n3) (λ (e : j ≢ i + 2). two j l (omega arith))
+  pub passed-end : length piece ≤ i → Skipped piece from byte i
+  passed-end l = record { on = p .on; within = p .within; others = p .others; found = λ h. absurd (omega arith) }
 
-      pub skipped-3 : i + 3 < length piece → getD piece (i + 3) 0 ≡ byte → Skipped piece from byte (i + 3)
-      skipped-3 room e = record { on = omega arith; within = omega arith; others = three; found = λ h. e }
-
-      pub skipped-four : getD piece (i + 3) 0 ≢ byte → (j : ℕ) → from ≤ j → j < i + 4 → getD piece j 0 ≢ byte
-      skipped-four n4 j l h = by-eq j (i + 3) (λ (e : j ≡ i + 3). rw e n4) (λ (e : j ≢ i + 3). three j l (omega arith))
-
-pub skipped-on : (piece : List ℕ) (from byte i r : ℕ) → from ≤ i → ((j : ℕ) → from ≤ j → j < i → getD piece j 0 ≢ byte) →
-    Skipped piece i byte r → Skipped piece from byte r
-skipped-on piece from byte i r lo f s =
-    record {
-      on = omega (arith, s .on);
-      within = s .within;
-      others = λ j l h. by-le i j (λ (e : i ≤ j). s .others j e h) (λ (e : j < i). f j l e);
-      found = s .found;
-    }
+  pub passed-on : (r : ℕ) → Skipped piece i byte r → Skipped piece from byte r
+  passed-on r s =
+      record {
+        on = omega (arith, p .on, s .on);
+        within = s .within;
+        others = λ j lo hi. by-le i j (λ (h : i ≤ j). s .others j h hi) (λ (h : j < i). p .others j lo h);
+        found = s .found;
+      }
