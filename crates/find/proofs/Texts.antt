@@ -3,12 +3,12 @@ use mathlib.Core.Path.{_≡_, refl, sym, ap, _∙_}
 use mathlib.Core.Bool.{Bool, true, false, not, cond}
 use mathlib.Core.List.{List, [], _∷_, _++_, append-nil, append-assoc}
 use Prim.Native.Nat.{ℕ, zero, suc, _+_, _*_, _-_, _/_, _≤_, _<_}
-use native.Mathlib.Nat.{add-zero, add-suc}
 use native.Mathlib.Omega.{arith}
 use borrow.Author.Tests.{lt-ltb, le-ltb}
 use lib.Dec.{eqb}
 use lib.ListN.{length, take, drop, length-append, length-drop, take-append-drop}
-use lib.Seq.{length-take-le, take-all, take-append-le, drop-append-le}
+use lib.Seq.{length-take-le, take-all, take-append-seam, drop-append-seam}
+use Rattle.words.proofs.Tests.{by-le}
 use Rattle.automaton.specs.Arrows.{stepped}
 use Rattle.codes.specs.Refusals.{refused-if, first-refusal}
 use Rattle.codes.specs.Codes.{accepted}
@@ -26,7 +26,7 @@ use Rattle.finder.proofs.Promises.{Kept, kept-start, kept-byte, counted}
 use Rattle.finder.proofs.Entries.{same-refusal}
 use Rattle.forms.specs.Text.{place-form, place-forms, refused-form}
 use Rattle.find.specs.Printed.{piece-size, last, end-of, piece-form, piece-watch}
-use Rattle.find.specs.Output.{pieces, text-output, most-pieces}
+use Rattle.find.specs.Output.{pieces, cut, text-output}
 use Rattle.find.specs.Promise.{places, search-form}
 
 -- PLACES printed at once, or the first ones and then the others
@@ -63,7 +63,7 @@ call-feeds : (w : List ℕ) (c : Call) (x : Watch) → call-refusal c (x .taken)
 unfolding called
 call-feeds w c x e = rw e
 
--- THE PIECES of a text: the last one, or a full one and the others
+-- THE PIECES of a text, enough of them: the last one, or a full one and the others
 pieces-last : (k : ℕ) (ts : List ℕ) → length ts < piece-size → pieces (suc k) ts ≡ ts ∷ []
 unfolding pieces last
 pieces-last k ts h = rw (lt-ltb (length ts) piece-size h)
@@ -71,6 +71,28 @@ pieces-last k ts h = rw (lt-ltb (length ts) piece-size h)
 pieces-more : (k : ℕ) (ts : List ℕ) → piece-size ≤ length ts → pieces (suc k) ts ≡ take piece-size ts ∷ pieces k (drop piece-size ts)
 unfolding pieces last
 pieces-more k ts h = rw (le-ltb (length ts) piece-size h)
+
+pieces-enough : (k j : ℕ) (ts : List ℕ) → length ts < k → length ts < j → pieces k ts ≡ pieces j ts
+pieces-enough zero j ts h l = absurd (omega arith)
+pieces-enough (suc k) zero ts h l = absurd (omega arith)
+pieces-enough (suc k) (suc j) ts h l =
+    by-le piece-size (length ts)
+    (λ (m : piece-size ≤ length ts).
+    let left : length (drop piece-size ts) ≡ length ts - piece-size = length-drop piece-size ts in
+    rw (pieces-more k ts m, pieces-more j ts m, pieces-enough k j (drop piece-size ts) (omega arith) (omega arith)))
+    (λ (m : length ts < piece-size). rw (pieces-last k ts m, pieces-last j ts m))
+
+pub cut-last : (ts : List ℕ) → length ts < piece-size → cut ts ≡ ts ∷ []
+unfolding cut
+cut-last ts h = pieces-last (length ts) ts h
+
+pub cut-more : (c ts : List ℕ) → length c ≡ piece-size → cut (c ++ ts) ≡ c ∷ cut ts
+unfolding cut
+cut-more c ts e =
+    let size : length (c ++ ts) ≡ length c + length ts = length-append c ts in
+    let front : take piece-size (c ++ ts) ≡ c = rw (← e) (take-append-seam c ts) in
+    let back : drop piece-size (c ++ ts) ≡ ts = rw (← e) (drop-append-seam c ts) in
+    rw (pieces-more (length (c ++ ts)) (c ++ ts) (omega arith), front, back, pieces-enough (length (c ++ ts)) (suc (length ts)) ts (omega arith) (omega arith))
 
 full-last : (c : List ℕ) → length c ≡ piece-size → last c ≡ false
 unfolding last
@@ -116,32 +138,24 @@ module _ (w rest : List ℕ) (good : accepted w ≡ true) where
           rw (one, whole) at (simulates-call w (Kept w) (kept-byte w) (call c) s)
 
   -- FULL PIECES ts, then the text us: what is printed follows from what is printed where the simulation has come to us
-  full-pieces : (j k : ℕ) (ts us printed : List ℕ) {x : Watch} {ps bs : List ℕ} {m : Machine} → Simulates w (Kept w) x ps bs m →
+  full-pieces : (j : ℕ) (ts us printed : List ℕ) {x : Watch} {ps bs : List ℕ} {m : Machine} → Simulates w (Kept w) x ps bs m →
       length ts ≡ piece-size * j → length bs + length ts ≤ longest-text →
       ((y : Watch) (qs : List ℕ) (n : Machine) → Simulates w (Kept w) y qs (bs ++ ts) n →
-      place-forms qs ++ text-output buffer (pieces k us) y ≡ printed) →
-      place-forms ps ++ text-output buffer (pieces (k + j) (ts ++ us)) x ≡ printed
-  full-pieces zero k [] us printed {x} {ps} {bs} {m} s full fits done = rw add-zero (done x ps m (rw append-nil s))
-  full-pieces zero k (t ∷ ts) us printed s full fits done = absurd (omega arith)
-  full-pieces (suc j) k ts us printed {bs = bs} s full fits done =
+      place-forms qs ++ text-output buffer (cut us) y ≡ printed) →
+      place-forms ps ++ text-output buffer (cut (ts ++ us)) x ≡ printed
+  full-pieces zero [] us printed {x} {ps} {bs} {m} s full fits done = done x ps m (rw append-nil s)
+  full-pieces zero (t ∷ ts) us printed s full fits done = absurd (omega arith)
+  full-pieces (suc j) ts us printed {bs = bs} s full fits done =
       let c : List ℕ = take piece-size ts in
       let d : List ℕ = drop piece-size ts in
-      let some : piece-size ≤ length ts = omega arith in
-      let size : length c ≡ piece-size = length-take-le piece-size ts some in
+      let size : length c ≡ piece-size = length-take-le piece-size ts (omega arith) in
       let left : length d ≡ length ts - piece-size = length-drop piece-size ts in
       let whole : c ++ d ≡ ts = take-append-drop piece-size ts in
       let fit : length bs + length c ≤ longest-text = omega arith in
-      rw (
-        add-suc,
-        pieces-more (k + j) (ts ++ us) (omega (arith, length-append ts us)),
-        take-append-le piece-size ts us some,
-        drop-append-le piece-size ts us some,
-        piece-printed c s fit (pieces (k + j) (d ++ us)),
-        full-last c size,
-        ← append-assoc,
-        ← forms-append,
-      )
-      (full-pieces j k d us printed (piece-fed c s fit (omega arith)) (omega arith) (omega (arith, length-append bs c))
+      let split : ts ++ us ≡ c ++ (d ++ us) = ap (λ (l : List ℕ). l ++ us) (sym whole) ∙ append-assoc c d us in
+      let first : cut (ts ++ us) ≡ c ∷ cut (d ++ us) = ap cut split ∙ cut-more c (d ++ us) size in
+      rw (first, piece-printed c s fit (cut (d ++ us)), full-last c size, ← append-assoc, ← forms-append)
+      (full-pieces j d us printed (piece-fed c s fit (omega arith)) (omega arith) (omega (arith, length-append bs c))
       (λ y qs n u. done y qs n (rw (append-assoc, whole) at u)))
 
   -- what the simulation tells of all that was read
@@ -152,46 +166,45 @@ module _ (w rest : List ℕ) (good : accepted w ≡ true) where
   all-told s = rw (s .bytes, s .hits, s .compares, s .told, s .text, s .keeps .adds, s .keeps .right)
 
   -- THE LAST PIECE
-  last-piece : (k : ℕ) (us : List ℕ) {x : Watch} {ps bs : List ℕ} {m : Machine} → Simulates w (Kept w) x ps bs m →
+  last-piece : (us : List ℕ) {x : Watch} {ps bs : List ℕ} {m : Machine} → Simulates w (Kept w) x ps bs m →
       length us < piece-size → length bs + length us ≤ longest-text →
-      place-forms ps ++ text-output buffer (pieces (suc k) us) x ≡ search-form w (bs ++ us)
+      place-forms ps ++ text-output buffer (cut us) x ≡ search-form w (bs ++ us)
   unfolding last
-  last-piece k us s h fits =
-      rw (pieces-last k us h, piece-printed us s fits [], lt-ltb (length us) piece-size h, ← append-assoc, ← forms-append)
+  last-piece us s h fits =
+      rw (cut-last us h, piece-printed us s fits [], lt-ltb (length us) piece-size h, ← append-assoc, ← forms-append)
       (all-told (piece-fed us s fits (omega arith)))
 
   -- A WHOLE TEXT: its first j pieces are full
-  from-opened : (j k : ℕ) (ts printed : List ℕ) → piece-size * j ≤ length ts → piece-size * j ≤ longest-text →
+  from-opened : (j : ℕ) (ts printed : List ℕ) → piece-size * j ≤ length ts → piece-size * j ≤ longest-text →
       ((y : Watch) (qs : List ℕ) (m : Machine) → Simulates w (Kept w) y qs (take (piece-size * j) ts) m →
-      place-forms qs ++ text-output buffer (pieces k (drop (piece-size * j) ts)) y ≡ printed) →
-      text-output buffer (pieces (k + j) ts) opened ≡ printed
+      place-forms qs ++ text-output buffer (cut (drop (piece-size * j) ts)) y ≡ printed) →
+      text-output buffer (cut ts) opened ≡ printed
   unfolding place-forms
-  from-opened j k ts printed h fits done =
+  from-opened j ts printed h fits done =
       let n : ℕ = piece-size * j in
       let size : length (take n ts) ≡ n = length-take-le n ts h in
       rw (take-append-drop n ts) at
-      (full-pieces j k (take n ts) (drop n ts) printed (simulates-start w (Kept w) (kept-start w)) size (omega arith) done)
+      (full-pieces j (take n ts) (drop n ts) printed (simulates-start w (Kept w) (kept-start w)) size (omega arith) done)
 
   -- a text that a watch takes, and one of which it takes j pieces and not another
-  pub text-right : (ts : List ℕ) → length ts ≤ longest-text → text-output buffer (pieces most-pieces ts) opened ≡ search-form w ts
+  pub text-right : (ts : List ℕ) → length ts ≤ longest-text → text-output buffer (cut ts) opened ≡ search-form w ts
   text-right ts h =
       let j : ℕ = length ts / piece-size in
       let n : ℕ = piece-size * j in
-      let k : ℕ = most-pieces - suc j in
-      let turns : suc k + j ≡ most-pieces = omega arith in
       let size : length (take n ts) ≡ n = length-take-le n ts (omega arith) in
       let left : length (drop n ts) ≡ length ts - n = length-drop n ts in
-      rw turns at
-      (from-opened j (suc k) ts (search-form w ts) (omega arith) (omega arith)
-      (λ y qs m s. rw (take-append-drop n ts) at (last-piece k (drop n ts) s (omega arith) (omega arith))))
+      from-opened j ts (search-form w ts) (omega arith) (omega arith)
+      (λ y qs m s. rw (take-append-drop n ts) at (last-piece (drop n ts) s (omega arith) (omega arith)))
 
-  pub text-long : (j k : ℕ) (ts : List ℕ) → piece-size * j ≤ longest-text → longest-text < piece-size * suc j → piece-size * suc j ≤ length ts →
-      text-output buffer (pieces (suc k + j) ts) opened ≡ place-forms (places w (take (piece-size * j) ts)) ++ refused-form 7
-  text-long j k ts fits over h =
+  pub text-long : (j : ℕ) (ts : List ℕ) → piece-size * j ≤ longest-text → longest-text < piece-size * suc j → piece-size * suc j ≤ length ts →
+      text-output buffer (cut ts) opened ≡ place-forms (places w (take (piece-size * j) ts)) ++ refused-form 7
+  text-long j ts fits over h =
       let n : ℕ = piece-size * j in
       let us : List ℕ = drop n ts in
+      let c : List ℕ = take piece-size us in
       let size : length (take n ts) ≡ n = length-take-le n ts (omega arith) in
       let left : length us ≡ length ts - n = length-drop n ts in
-      let full : length (take piece-size us) ≡ piece-size = length-take-le piece-size us (omega arith) in
-      from-opened j (suc k) ts (place-forms (places w (take n ts)) ++ refused-form 7) (omega arith) fits
-      (λ y qs m s. rw (pieces-more k us (omega arith), piece-over (take piece-size us) s (pieces k (drop piece-size us)) (omega arith), all-places s))
+      let full : length c ≡ piece-size = length-take-le piece-size us (omega arith) in
+      let first : cut us ≡ c ∷ cut (drop piece-size us) = ap cut (sym (take-append-drop piece-size us)) ∙ cut-more c (drop piece-size us) full in
+      from-opened j ts (place-forms (places w (take n ts)) ++ refused-form 7) (omega arith) fits
+      (λ y qs m s. rw (first, piece-over c s (cut (drop piece-size us)) (omega arith), all-places s))

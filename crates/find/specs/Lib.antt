@@ -1,3 +1,5 @@
 pub mod Printed
 pub mod Output
 pub mod Promise
+pub mod Receipts
+pub mod Program

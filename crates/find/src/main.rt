@@ -1,11 +1,17 @@
 // find: reads `(code X)`, a line feed and a text from standard input, and prints each place of X in the text, then what was counted.
-// Every byte that is printed is decided by proved functions, here and in `forms`, `codes` and `finder`; main and its loops read, call
-// them and write.
+// `run` is the program, and its contract says all that it does with the bytes that came; only which bytes the system moved is left to reading, in
+// `read_some` and `print`. `came` and `sent` count the bytes read and written: no other function changes them.
 ghost use mathlib.Core.Path.{_≡_};
+ghost use mathlib.Core.Bool.{true, false};
 ghost use Prim.Native.Nat.{_+_, _*_, _≤_};
-ghost use lib.ListN.{length};
+ghost use lib.ListN.{length, take};
 ghost use Rattle.finder.specs.Entry.{ending-refusal};
-ghost use Rattle.find.specs.Printed.{Within, prepared-refusal, prepared-sheet, line-refusal, line-sheet, room, Piece-taken};
+ghost use Rattle.finder.specs.Feed.{opened};
+ghost use Rattle.forms.specs.Line.{goes-on};
+ghost use Rattle.forms.specs.Text.{refused-form};
+ghost use Rattle.find.specs.Printed.{prepared-refusal, prepared-sheet, line-refusal, line-sheet, room, Piece-taken};
+ghost use Rattle.find.specs.Receipts.{Told, Counted-on};
+ghost use Rattle.find.specs.Program.{Done-or-told, Rises, Got-into, Line-read, Sent-or-told, Piece-printed, Searched, Ran};
 use codes::Answer;
 use finder::Ending;
 use finder::Watch;
@@ -14,97 +20,132 @@ use forms::Line;
 // The bytes of a piece; fewer make the last one.
 const PIECE: usize = 4096;
 
-// What was read: so many bytes, fewer than asked for only where the input ends; or a read failed.
-enum Got {
-    Bytes(usize),
-    Failed,
-}
-
-// Reads until a buffer is full or the input ends, whatever each read brings.
-fn read_full(buffer: &mut [u8]) -> Got
-    ensures { λ r. ⌜ Within r (length (now (buffer .exit))) ⌝ }
-{
-    let mut n = 0;
-    while n < buffer.len() {
-        let part = &mut buffer[n..];
-        let got = libc::read(libc::STDIN_FILENO, part);
-        if got < 0 {
-            return Got::Failed;
-        }
-        let k = io::count(got, part);
-        if k == 0 {
-            return Got::Bytes(n);
-        }
-        n += k;
-    }
-    Got::Bytes(n)
-}
-
 // Says on standard error that the search is not complete. The output then has no end form.
-fn give_up(why: &[u8]) {
+fn give_up(why: &[u8])
+    ensures { λ _. ⌜ Told ⌝ }
+{
     io::write_all(libc::STDERR_FILENO, b"find: not complete: ");
     io::write_all(libc::STDERR_FILENO, why);
     io::write_all(libc::STDERR_FILENO, b"\n");
 }
 
+// Moves a count of bytes on, unless it would wrap.
+fn count_on(count: &mut u64, n: usize) -> bool
+    ensures { λ r. ⌜ Done-or-told r (Counted-on (now (count .entry)) n (now (count .exit))) ⌝ }
+{
+    if u64::MAX - *count < n as u64 {
+        give_up(b"more bytes than can be counted");
+        return false;
+    }
+    *count += n as u64;
+    true
+}
+
+// What was read: so many bytes, or a read failed.
+enum Got {
+    Bytes(usize),
+    Failed,
+}
+
+// One read: none only where the input ends.
+fn read_some(came: &mut u64, part: &mut [u8]) -> Got
+    requires { ⌜ 1 ≤ length (now part) ⌝ }
+    ensures { λ r. ⌜ Got-into 1 (now (came .entry)) r (now (came .exit)) (now (part .exit)) ⌝ }
+{
+    let got = libc::read(libc::STDIN_FILENO, part);
+    if got < 0 {
+        give_up(b"the input could not be read");
+        return Got::Failed;
+    }
+    let n = io::count(got, part);
+    if count_on(came, n) {
+        return Got::Bytes(n);
+    }
+    Got::Failed
+}
+
+// Reads until a buffer is full or the input ends, whatever each read brings.
+fn read_full(came: &mut u64, buffer: &mut [u8]) -> Got
+    ensures { λ r. ⌜ Got-into (length (now (buffer .entry))) (now (came .entry)) r (now (came .exit)) (now (buffer .exit)) ⌝ }
+{
+    let mut n = 0;
+    while n < buffer.len() {
+        let got = read_some(came, &mut buffer[n..]);
+        match got {
+            Got::Bytes(k) => {
+                if k == 0 {
+                    return Got::Bytes(n);
+                }
+                n += k;
+            }
+            Got::Failed => return Got::Failed,
+        }
+    }
+    Got::Bytes(n)
+}
+
 // Writes the first n bytes of a buffer to standard output; whether that was possible.
-fn print(buffer: &[u8], n: usize) -> bool
+fn print(sent: &mut u64, buffer: &[u8], n: usize) -> bool
     requires { ⌜ n ≤ length (now buffer) ⌝ }
+    ensures { λ r. ⌜ Sent-or-told (now (sent .entry)) (take n (now (buffer .entry))) r (now (sent .exit)) ⌝ }
 {
     if io::write_all(libc::STDOUT_FILENO, &buffer[..n]) {
-        return true;
+        return count_on(sent, n);
     }
     give_up(b"the output could not be written");
     false
 }
 
-// The first line as far as it was read, whether more of it is to be read, and whether it could be read.
+// The first line as far as it was read, whether more of it is to be read, and whether nothing failed.
 struct Start {
     line: Line,
     more: bool,
-    readable: bool,
+    ok: bool,
 }
 
 // One more byte of the first line. An input that ends is not of the form.
-fn read_byte(line: Line, kept: &mut [u8; 256]) -> Start {
+fn read_byte(came: &mut u64, line: Line, kept: &mut [u8; 256]) -> Start
+    requires { ⌜ goes-on line ≡ true ⌝ }
+    ensures { λ r. ⌜ Line-read line (now (kept .entry)) (now (came .entry)) r (now (kept .exit)) (now (came .exit)) × Rises (r .more) (now (came .entry)) (now (came .exit)) ⌝ }
+{
     let mut one = [0u8; 1];
-    let got = read_full(&mut one);
+    let got = read_some(came, &mut one);
     match got {
         Got::Bytes(n) => {
             if n == 0 {
                 return Start {
                     line: Line::Wrong,
                     more: false,
-                    readable: true,
+                    ok: true,
                 };
             }
             let next = forms::line_byte(line, one[0], kept);
             Start {
                 line: next,
                 more: forms::goes_on(next),
-                readable: true,
+                ok: true,
             }
         }
         Got::Failed => Start {
             line: Line::Wrong,
             more: false,
-            readable: false,
+            ok: false,
         },
     }
 }
 
-// The first line, a byte at a time, so that the text begins where the line ends. The turns only show that the loop ends: no input has so many bytes.
-fn read_line(kept: &mut [u8; 256]) -> Start {
+// The first line, a byte at a time, so that the text begins where the line ends. Each turn counts a byte that came: so it ends.
+fn read_line(came: &mut u64, kept: &mut [u8; 256]) -> Start
+    ensures { λ r. ⌜ (r .more ≡ false) × Line-read (Line.Opening 0) (now (kept .entry)) (now (came .entry)) r (now (kept .exit)) (now (came .exit)) ⌝ }
+{
     let mut start = Start {
         line: Line::Opening(0),
         more: true,
-        readable: true,
+        ok: true,
     };
-    let mut turns = u64::MAX;
-    while turns > 0 && start.more {
+    while start.more {
         let line = start.line;
-        start = read_byte(line, kept);
-        turns -= 1;
+        start = read_byte(came, line, kept);
     }
     start
 }
@@ -186,10 +227,11 @@ fn take_piece(sheet: &[u8], watch: Watch, piece: &[u8], places: &mut [u32], out:
     }
 }
 
-// Where a search has come to: the watch, and whether more of the text is to be read.
+// Where a search has come to: the watch, whether more of the text is to be read, and whether nothing failed.
 struct Scan {
     watch: Watch,
     more: bool,
+    ok: bool,
 }
 
 // Takes the piece that stands in the first n bytes of a buffer, and prints what it leads to.
@@ -200,15 +242,19 @@ fn print_piece(
     n: usize,
     places: &mut [u32],
     out: &mut [u8],
+    sent: &mut u64,
 ) -> Scan
     requires { ⌜ (n ≤ length (now buffer)) × (room (length (now places)) ≤ length (now out)) ⌝ }
+    ensures { λ r. ⌜ Piece-printed (now (sheet .entry)) watch (take n (now (buffer .entry))) (length (now (places .entry))) (now (sent .entry)) r (now (sent .exit)) ⌝ }
 {
     let turn = take_piece(sheet, watch, &buffer[..n], places, out);
     let next = turn.watch;
-    let done = print(out, turn.printed);
+    let more = turn.more;
+    let ok = print(sent, out, turn.printed);
     Scan {
         watch: next,
-        more: turn.more && done,
+        more: more && ok,
+        ok: ok,
     }
 }
 
@@ -219,52 +265,72 @@ fn search_piece(
     buffer: &mut [u8; 4096],
     places: &mut [u32; 4096],
     out: &mut [u8; 65616],
-) -> Scan {
-    let got = read_full(buffer);
+    came: &mut u64,
+    sent: &mut u64,
+) -> Scan
+    ensures { λ r. ⌜ Searched (now (sheet .entry)) watch (now (came .entry)) (now (sent .entry)) r (now (came .exit)) (now (sent .exit)) × Rises (r .more) (now (came .entry)) (now (came .exit)) ⌝ }
+{
+    let got = read_full(came, buffer);
     match got {
-        Got::Bytes(n) => print_piece(sheet, watch, buffer, n, places, out),
-        Got::Failed => {
-            give_up(b"the input could not be read");
-            Scan {
-                watch: watch,
-                more: false,
-            }
-        }
+        Got::Bytes(n) => print_piece(sheet, watch, buffer, n, places, out, sent),
+        Got::Failed => Scan {
+            watch: watch,
+            more: false,
+            ok: false,
+        },
     }
 }
 
-// Searches the text. It ends, or feeding refuses a piece, before the turns are used up: a watch takes fewer than 1,048,577 pieces.
-fn search(sheet: &[u8]) {
+// Searches the text, as long as more of it is to come. Each turn counts bytes that came: so it ends.
+fn search(sheet: &[u8], came: &mut u64, sent: &mut u64) -> Scan
+    ensures { λ r. ⌜ (r .more ≡ false) × Searched (now (sheet .entry)) opened (now (came .entry)) (now (sent .entry)) r (now (came .exit)) (now (sent .exit)) ⌝ }
+{
     let mut buffer = [0u8; 4096];
     let mut places = [0u32; 4096];
     let mut out = [0u8; 65616];
     let mut scan = Scan {
         watch: Watch::open(),
         more: true,
+        ok: true,
     };
-    let mut turns = 1048577u32;
-    while turns > 0 && scan.more {
+    while scan.more {
         let watch = scan.watch;
-        scan = search_piece(sheet, watch, &mut buffer, &mut places, &mut out);
-        turns -= 1;
+        scan = search_piece(sheet, watch, &mut buffer, &mut places, &mut out, came, sent);
     }
+    scan
 }
 
-fn main() {
+// Prints a refusal as the only line.
+fn print_refusal(sent: &mut u64, number: u32) -> bool
+    ensures { λ r. ⌜ Sent-or-told (now (sent .entry)) (refused-form number) r (now (sent .exit)) ⌝ }
+{
+    let mut out = [0u8; 32];
+    let n = forms::put_refused(&mut out, 0, number);
+    print(sent, &out, n)
+}
+
+// The program; whether it is complete.
+fn run(came: &mut u64, sent: &mut u64) -> bool
+    requires { ⌜ (now came ≡ 0) × (now sent ≡ 0) ⌝ }
+    ensures { λ r. ⌜ Ran r (now (came .exit)) (now (sent .exit)) ⌝ }
+{
     let mut kept = [0u8; 256];
-    let start = read_line(&mut kept);
-    if !start.readable {
-        give_up(b"the input could not be read");
-        return;
+    let start = read_line(came, &mut kept);
+    if !start.ok {
+        return false;
     }
     let line = start.line;
     let mut sheet = [0u8; 767];
     let refusal = prepare_line(line, &kept, &mut sheet);
     if refusal != 0 {
-        let mut out = [0u8; 32];
-        let n = forms::put_refused(&mut out, 0, refusal);
-        print(&out, n);
-        return;
+        return print_refusal(sent, refusal);
     }
-    search(&sheet);
+    let scan = search(&sheet, came, sent);
+    scan.ok
+}
+
+fn main() {
+    let mut came = 0u64;
+    let mut sent = 0u64;
+    run(&mut came, &mut sent);
 }

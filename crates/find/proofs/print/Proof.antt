@@ -1,7 +1,9 @@
--- `print` meets its contract. Assumes nothing.
+-- `print` meets its contract: it makes the receipts. Assumes nothing.
+use Rattle.find.proofs.Moving.{is-told}
+use Rattle.find.specs.Receipts.{Sent}
+use lib.Seq.{length-take-le}
 use mathlib.Core.Path.{sym}
 use borrow.Author.Needs.{needs}
-use lib.Seq.{length-take-le}
 use Rattle.find.proofs.print.Statement.{statement}
 use Rattle.find.proofs.print.Tie as tie
 
@@ -11,8 +13,18 @@ slice-aggregate-write-all c = sym (length-take-le _ _ (c .before .before .pre))
 write-all-requires : tie.Need-write-all-requires
 write-all-requires c κs = search needs
 
+count-on-requires : tie.Need-count-on-requires
+count-on-requires c κs = search needs
+
 returns : tie.Need-returns
-returns c = search needs
+unfolding Sent
+returns c =
+    let s = c .before .before .before .before .before .before in
+    let size = length-take-le (s .args .n) (s .args .buffer .now) (s .pre) in
+    record {
+      done = λ e. record { counted = rw size (c .count-on .ensures .done e); each = λ i h. tt };
+      told = c .count-on .ensures .told;
+    }
 
 slice-aggregate-give-up : tie.Need-slice-aggregate-give-up
 slice-aggregate-give-up c = search needs
@@ -21,7 +33,7 @@ give-up-requires : tie.Need-give-up-requires
 give-up-requires c κs = search needs
 
 returns-2 : tie.Need-returns-2
-returns-2 c = search needs
+returns-2 c = is-told (c .give-up .ensures)
 
 pub print-spec : {M : Type 1} → statement M
 print-spec =
@@ -29,6 +41,7 @@ print-spec =
     (tie.spec
     slice-aggregate-write-all
     write-all-requires
+    count-on-requires
     returns
     slice-aggregate-give-up
     give-up-requires

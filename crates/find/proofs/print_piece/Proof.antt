@@ -1,7 +1,8 @@
 -- `print_piece` meets its contract. Assumes nothing.
-use mathlib.Core.Path.{sym}
-use borrow.Author.Needs.{needs}
+use mathlib.Core.Path.{sym, refl}
 use lib.Seq.{length-take-le}
+use Rattle.find.proofs.Searching.{taken-printed}
+use borrow.Author.Needs.{needs}
 use Rattle.find.proofs.print_piece.Statement.{statement}
 use Rattle.find.proofs.print_piece.Tie as tie
 
@@ -21,7 +22,9 @@ same-length-2 : tie.Need-same-length-2
 same-length-2 c = search needs
 
 returns : tie.Need-returns
-returns c = search needs
+returns c =
+    let p = c .before in
+    taken-printed _ _ _ _ _ _ _ _ _ _ (p .before .before .before .before .before .before .before .before .take-piece .ensures) (p .print .ensures) (rw (c .if1 .taken) refl)
 
 same-length-3 : tie.Need-same-length-3
 same-length-3 c = search needs
@@ -30,7 +33,9 @@ same-length-4 : tie.Need-same-length-4
 same-length-4 c = search needs
 
 returns-2 : tie.Need-returns-2
-returns-2 c = search needs
+returns-2 c =
+    let p = c .before in
+    taken-printed _ _ _ _ _ _ _ _ _ _ (p .before .before .before .before .before .before .before .before .take-piece .ensures) (p .print .ensures) (rw (c .if1 .left) refl)
 
 pub print-piece-spec : {M : Type 1} → statement M
 print-piece-spec =

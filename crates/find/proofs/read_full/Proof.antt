@@ -1,61 +1,78 @@
 -- `read_full` meets its contract. Each turn reads at least one byte. Assumes nothing.
 use mathlib.Core.Path.{_≡_, refl}
 use Prim.Native.Nat.{_-_, _≤_, zero-le}
+use native.Mathlib.Omega.{arith}
 use borrow.Author.Needs.{needs}
-use lib.ListN.{length}
+use lib.ListN.{length, take}
+use Rattle.find.specs.Receipts.{Came, Moved}
+use Rattle.find.proofs.Moving.{moved-none, read-on, read-none}
 use Rattle.find.proofs.read_full.Statement.{statement}
 use Rattle.find.proofs.read_full.Tie as tie
+use Rattle.find.proofs.read_full.Reads as reads
+use Rattle.find.proofs.read_full.Lts as lts
+use Rattle.find.proofs.read_some.Reads as read-some-reads
 
 abbrev Inv-loop : tie.InvT-loop
-Inv-loop buffer₀ n₀ buffer n = (n ≤ length buffer) × (length buffer ≡ length buffer₀)
+Inv-loop came₀ buffer₀ n₀ came buffer n = (n ≤ length buffer) × (length buffer ≡ length buffer₀) × Moved Came came₀ came (take n buffer)
 
 abbrev μ-loop : tie.MeasureT-loop
-μ-loop buffer₀ n₀ buffer n = length buffer - n
+μ-loop came₀ buffer₀ n₀ came buffer n = length buffer - n
 
 loop-holds : tie.Need-loop-holds Inv-loop μ-loop
-loop-holds c = (zero-le, refl)
+loop-holds c = (zero-le, refl, moved-none Came _)
 
-sub-part : tie.Need-sub-part Inv-loop μ-loop
-sub-part c = search needs
+sub-read-some : tie.Need-sub-read-some Inv-loop μ-loop
+sub-read-some c = search needs
 
-part-part-start : tie.Need-part-part-start Inv-loop μ-loop
-part-part-start c = search needs
+part-read-some-start : tie.Need-part-read-some-start Inv-loop μ-loop
+part-read-some-start c = search needs
 
-part-part-end : tie.Need-part-part-end Inv-loop μ-loop
-part-part-end c = search needs
+part-read-some-end : tie.Need-part-read-some-end Inv-loop μ-loop
+part-read-some-end c = search needs
 
-read-requires : tie.Need-read-requires Inv-loop μ-loop
-read-requires c κs = search needs
+read-some-requires : tie.Need-read-some-requires Inv-loop μ-loop
+read-some-requires c κs = search needs
+
+enum-known-got : tie.Need-enum-known-got Inv-loop μ-loop
+enum-known-got c = search needs
 
 same-length : tie.Need-same-length Inv-loop μ-loop
 same-length c = search needs
 
 returns : tie.Need-returns Inv-loop μ-loop
-returns c = search needs
+returns c =
+    let g = c .before .before in
+    let r = rw (g .got .given .1) at (g .before .before .before .before .read-some .ensures) in
+    let kept = g .before .before .before .before .before .before .before .before .loop .inv in
+    record { within = search needs; came = read-none _ _ _ _ _ (kept .0) (kept .2) r (c .if1 .taken); ends = λ _. r .ends (omega (arith, c .if1 .taken)) }
 
-count-requires : tie.Need-count-requires Inv-loop μ-loop
-count-requires c κs = search needs
+add-n : tie.Need-add-n Inv-loop μ-loop
+add-n c = let r = rw (c .before .before .got .given .1) at (c .before .before .before .before .before .before .read-some .ensures) in search needs
+
+loop-less : tie.Need-loop-less Inv-loop μ-loop
+loop-less c = let r = rw (c .before .before .got .given .1) at (c .before .before .before .before .before .before .read-some .ensures) in search needs
+
+loop-again : tie.Need-loop-again Inv-loop μ-loop
+loop-again c =
+    let g = c .before .before in
+    let r = rw (g .got .given .1) at (g .before .before .before .before .read-some .ensures) in
+    let kept = g .before .before .before .before .before .before .before .before .loop .inv in
+    (search needs, search needs, read-on _ _ _ _ _ (kept .0) (kept .2) r)
+
+enum-told : tie.Need-enum-told Inv-loop μ-loop
+enum-told c = search needs
 
 same-length-2 : tie.Need-same-length-2 Inv-loop μ-loop
 same-length-2 c = search needs
 
 returns-2 : tie.Need-returns-2 Inv-loop μ-loop
-returns-2 c = search needs
-
-add-n : tie.Need-add-n Inv-loop μ-loop
-add-n c = search needs
-
-loop-less : tie.Need-loop-less Inv-loop μ-loop
-loop-less c = search needs
-
-loop-again : tie.Need-loop-again Inv-loop μ-loop
-loop-again c = search needs
+returns-2 c = rw (c .enum-told .given .1) at (c .before .before .before .before .read-some .ensures)
 
 same-length-3 : tie.Need-same-length-3 Inv-loop μ-loop
 same-length-3 c = search needs
 
 returns-3 : tie.Need-returns-3 Inv-loop μ-loop
-returns-3 c = search needs
+returns-3 c = record { within = c .before .loop .inv .0; came = c .before .loop .inv .2; ends = λ h. absurd (omega arith) }
 
 pub read-full-spec : {M : Type 1} → statement M
 read-full-spec =
@@ -64,17 +81,18 @@ read-full-spec =
     Inv-loop
     μ-loop
     loop-holds
-    sub-part
-    part-part-start
-    part-part-end
-    read-requires
+    sub-read-some
+    part-read-some-start
+    part-read-some-end
+    read-some-requires
+    enum-known-got
     same-length
     returns
-    count-requires
-    same-length-2
-    returns-2
     add-n
     loop-less
     loop-again
+    enum-told
+    same-length-2
+    returns-2
     same-length-3
     returns-3)

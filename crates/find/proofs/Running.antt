@@ -1,0 +1,86 @@
+-- The whole run: the first line came, and its refusal was sent or the text behind it searched. Assumes nothing.
+use mathlib.Core.Path.{_≡_, sym, _∙_}
+use mathlib.Core.Bool.{Bool, true, false}
+use mathlib.Core.List.{List, _++_, append-assoc, append-nil}
+use mathlib.Core.Logic.{_≢_}
+use Prim.Native.Nat.{ℕ}
+use native.Mathlib.Omega.{arith}
+use borrow.Author.Tests.{eq-eqb, ne-eqb}
+use lib.ListN.{replicate}
+use Rattle.finder.specs.declared.Watch.{Watch}
+use Rattle.finder.specs.Feed.{opened}
+use Rattle.forms.specs.declared.Line.{Line}
+use Rattle.forms.specs.declared.Line.the-variants.{Opening, Wrong}
+use Rattle.forms.specs.Line.{goes-on}
+use Rattle.forms.specs.Text.{refused-form}
+use Rattle.find.specs.declared.Start.{Start}
+use Rattle.find.specs.declared.Scan.{Scan}
+use Rattle.find.specs.Printed.{line-refusal, line-sheet}
+use Rattle.find.specs.Output.{output-after, output}
+use Rattle.find.specs.Receipts.{Sent, Moved, May-follow}
+use Rattle.find.specs.Program.{Sent-or-told, Line-on, Line-read, Search-on, Searched, Complete, Ran}
+use Rattle.find.proofs.Moving.{moved-join}
+use Rattle.find.proofs.FirstLine.{read-over}
+
+-- a wrong line is refused
+refusal-wrong : (l : Line) (a : List ℕ) (k : ℕ) → line-refusal l a k ≡ 0 → l ≢ Wrong
+refusal-wrong l a k e w = let z : _≡_ {A = ℕ} 8 0 = rw w at e in omega arith
+
+module _
+    {line : Line} {kept : List ℕ} {mid : ℕ} (f : Line-on (Opening 0) (replicate 256 0) 0 line kept mid) (over : goes-on line ≡ false) where
+  abbrev refusal : ℕ
+  refusal = line-refusal line kept 767
+
+  line-then : (rest : List ℕ) → (line ≡ Wrong → May-follow mid rest) →
+      output (f .bytes ++ rest) ≡ output-after (record { line = line; kept = kept; rest = rest }) (replicate 767 0)
+  unfolding output
+  line-then rest p = rw (f .reads rest p, read-over line kept rest over)
+
+  run-refused : {sent : ℕ} → refusal ≢ 0 → Moved Sent 0 sent (refused-form refusal) → Complete mid sent
+  unfolding output-after
+  run-refused h m =
+      record {
+        bytes = f .bytes;
+        out = refused-form refusal;
+        read = f .came;
+        wrote = m;
+        right = λ rest p. sym (line-then rest (λ _. p) ∙ rw (ne-eqb refusal 0 h));
+      }
+
+  run-searched : {y : Watch} {came sent : ℕ} → refusal ≡ 0 →
+      Search-on (line-sheet line kept (replicate 767 0)) opened mid 0 y false came sent → Complete came sent
+  unfolding output-after
+  run-searched none g =
+      record {
+        bytes = f .bytes ++ g .bytes;
+        out = g .out;
+        read = moved-join (f .came) (g .came);
+        wrote = g .sent;
+        right = λ rest p.
+            let first = line-then (g .bytes ++ rest) (λ w. absurd (refusal-wrong line kept 767 none w)) in
+            let then = g .prints rest (λ _. p) ∙ append-nil (g .out) in
+            rw append-assoc (sym (first ∙ rw (eq-eqb refusal 0 none) then));
+      }
+
+-- from where the functions leave it: the first line read, with counts that began at 0
+module _
+    {q : Start} {kept : List ℕ} {at mid from : ℕ} (left : q .more ≡ false) (f : Line-read (Opening 0) (replicate 256 0) at q kept mid)
+    (ok : q .ok ≡ true) (zero-came : at ≡ 0) (zero-sent : from ≡ 0) where
+  line-is : Line-on (Opening 0) (replicate 256 0) 0 (q .line) kept mid
+  line-is = rw zero-came at (f .so-far .done ok .0)
+
+  line-over : goes-on (q .line) ≡ false
+  line-over = sym (f .so-far .done ok .1) ∙ left
+
+  pub ran-refused : {n sent : ℕ} {r : Bool} → n ≡ line-refusal (q .line) kept 767 → n ≢ 0 →
+      Sent-or-told from (refused-form n) r sent → Ran r mid sent
+  ran-refused e h p =
+      record { done = λ d. run-refused line-is line-over (rw e at h) (rw (zero-sent, e) at (p .done d)); told = p .told }
+
+  pub ran-searched : {s : List ℕ} {n came sent : ℕ} {r : Scan} → n ≡ line-refusal (q .line) kept 767 → n ≡ 0 →
+      s ≡ line-sheet (q .line) kept (replicate 767 0) → r .more ≡ false → Searched s opened mid from r came sent → Ran (r .ok) came sent
+  ran-searched e none i over g =
+      record {
+        done = λ d. run-searched line-is line-over (sym e ∙ none) (rw (zero-sent, i, over) at (g .so-far .done d));
+        told = g .so-far .told;
+      }

@@ -1,0 +1,95 @@
+-- WHAT THE PROGRAM DOES with the bytes that come: the contracts of its loops, up to the whole run. Assumes nothing: these are definitions.
+use mathlib.Core.Path.{_≡_}
+use mathlib.Core.Bool.{Bool, true, false, not, _&&_, cond}
+use mathlib.Core.List.{List, [], _++_}
+use Prim.Native.Nat.{ℕ, _^_, _≤_, _<_}
+use lib.Dec.{eqb}
+use lib.ListN.{length, take}
+use Rattle.codes.specs.Sheet.{named}
+use Rattle.finder.specs.declared.Watch.{Watch}
+use Rattle.finder.specs.Feed.{Fed, feed}
+use Rattle.finder.specs.Entry.{feed-refusal}
+use Rattle.forms.specs.declared.Line.{Line}
+use Rattle.forms.specs.declared.Line.the-variants.{Wrong}
+use Rattle.forms.specs.Line.{goes-on, read}
+use Rattle.find.specs.declared.Got.{Got}
+use Rattle.find.specs.declared.Got.the-variants.{Bytes, Failed}
+use Rattle.find.specs.declared.Start.{Start}
+use Rattle.find.specs.declared.Scan.{Scan}
+use Rattle.find.specs.Receipts.{Came, Ended, Sent, Told, Moved, May-follow}
+use Rattle.find.specs.Printed.{last, piece-form, piece-watch}
+use Rattle.find.specs.Output.{cut, text-output, output}
+
+-- either something is done, or standard error was told that the search is not complete
+pub record Done-or-told (ok : Bool) (Done : Type 0) : Type 0 where
+  pub done : ok ≡ true → Done
+  pub told : ok ≡ false → Told
+
+-- READING: k bytes came into a buffer, fewer than `full` only where the input ended
+pub record Brought (full at k after : ℕ) (buffer : List ℕ) : Type 0 where
+  pub within : k ≤ length buffer
+  pub came : Moved Came at after (take k buffer)
+  pub ends : k < full → Ended after
+
+abbrev pub Got-into : (full at : ℕ) → Got → (after : ℕ) → (buffer : List ℕ) → Type 0
+Got-into n at (Bytes k) after b = Brought n at k after b
+Got-into n at Failed after b = Told
+
+-- PRINTING: these bytes were sent, all of them
+abbrev pub Sent-or-told : (at : ℕ) → (bytes : List ℕ) → (ok : Bool) → (after : ℕ) → Type 0
+Sent-or-told at bs r after = Done-or-told r (Moved Sent at after bs)
+
+-- WHY A LOOP ENDS: a turn that is to be followed by another has read something, and bytes read are counted in 64 bits
+abbrev pub Rises : (more : Bool) → (at after : ℕ) → Type 0
+Rises more at after = more ≡ true → (at < after) × (after < 2 ^ 64)
+
+-- THE FIRST LINE, from `line` to `next`: bytes came, and behind them `read` goes on just so, whatever follows them; where the input's end made the line
+-- wrong, nothing follows
+pub record Line-on (line : Line) (kept : List ℕ) (at : ℕ) (next : Line) (kept-after : List ℕ) (after : ℕ) : Type 0 where
+  pub bytes : List ℕ
+  pub came : Moved Came at after bytes
+  pub reads :
+      (rest : List ℕ) → (next ≡ Wrong → May-follow after rest) → read line kept (bytes ++ rest) ≡ read next kept-after rest
+
+-- what one byte of it, and the loop over its bytes, come to; more of it is to be read just as long as `read` goes on, and nothing failed
+pub record Line-read (line : Line) (kept : List ℕ) (at : ℕ) (r : Start) (kept-after : List ℕ) (after : ℕ) : Type 0 where
+  pub so-far : Done-or-told (r .ok) (Line-on line kept at (r .line) kept-after after × (r .more ≡ goes-on (r .line)))
+  pub goes : r .more ≡ true → r .ok ≡ true
+
+-- A PIECE was taken from watch x on, and what is to be printed for it was sent
+pub record Piece-sent (x : Watch) (piece : List ℕ) (refusal : ℕ) (f : Fed) (from : ℕ) (r : Scan) (to : ℕ) : Type 0 where
+  pub sent : Moved Sent from to (piece-form refusal (last piece) f)
+  pub watch : r .watch ≡ piece-watch refusal f x
+  pub more : r .more ≡ eqb refusal 0 && not (last piece)
+
+pub record Piece-printed (sheet : List ℕ) (x : Watch) (piece : List ℕ) (k from : ℕ) (r : Scan) (to : ℕ) : Type 0 where
+  pub all : Done-or-told (r .ok) (Piece-sent x piece (feed-refusal sheet x (length piece) k) (feed (named sheet) piece k x) from r to)
+  pub goes : r .more ≡ true → r .ok ≡ true
+
+-- THE SEARCH, from watch x to watch y: bytes came, and those were sent that are to be printed for them, whatever follows them; where no more is to be
+-- read, that is nothing if the input has ended
+pub record Search-on (sheet : List ℕ) (x : Watch) (at from : ℕ) (y : Watch) (more : Bool) (after to : ℕ) : Type 0 where
+  pub bytes : List ℕ
+  pub out : List ℕ
+  pub came : Moved Came at after bytes
+  pub sent : Moved Sent from to out
+  pub prints :
+      (rest : List ℕ) → (more ≡ false → May-follow after rest) →
+      text-output sheet (cut (bytes ++ rest)) x ≡ out ++ cond more (text-output sheet (cut rest) y) []
+
+-- what one piece, and the loop over the pieces, come to
+pub record Searched (sheet : List ℕ) (x : Watch) (at from : ℕ) (r : Scan) (after to : ℕ) : Type 0 where
+  pub so-far : Done-or-told (r .ok) (Search-on sheet x at from (r .watch) (r .more) after to)
+  pub goes : r .more ≡ true → r .ok ≡ true
+
+-- A COMPLETE RUN: bytes came and bytes were sent, so many, and those sent are the output of the whole input, whatever it has behind those that came
+pub record Complete (came sent : ℕ) : Type 0 where
+  pub bytes : List ℕ
+  pub out : List ℕ
+  pub read : Moved Came 0 came bytes
+  pub wrote : Moved Sent 0 sent out
+  pub right : (rest : List ℕ) → May-follow came rest → out ≡ output (bytes ++ rest)
+
+-- THE PROGRAM's promise: a complete run, or standard error was told that it is not
+abbrev pub Ran : (complete : Bool) → (came sent : ℕ) → Type 0
+Ran r came sent = Done-or-told r (Complete came sent)

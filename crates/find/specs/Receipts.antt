@@ -1,0 +1,37 @@
+-- RECEIPTS for the bytes that the system moves. No contract can say which bytes a call reads or writes, so these are shut names that only one small
+-- function's proof opens each: `read_some` Came and Ended, `print` Sent, `give_up` Told. Whoever has one has it from a call of that function.
+use mathlib.Core.Path.{_≡_}
+use mathlib.Core.List.{List, []}
+use Prim.Native.Nat.{ℕ, _+_, _^_, _≤_, _<_}
+use lib.ListN.{length}
+use Rattle.words.specs.Words.{byte}
+
+-- byte i of the input is c: a read brought it when i bytes had come before it
+unfoldable pub Came : (i c : ℕ) → Type 0
+Came i c = Unit {0}
+
+-- the input has n bytes: a read brought none when so many had come
+unfoldable pub Ended : (n : ℕ) → Type 0
+Ended n = Unit {0}
+
+-- byte i of the output is c: it was written when i bytes had been written before it
+unfoldable pub Sent : (i c : ℕ) → Type 0
+Sent i c = Unit {0}
+
+-- standard error was told that the search is not complete
+unfoldable pub Told : Type 0
+Told = Unit {0}
+
+-- n more were counted, from `at` to `after`, in 64 bits
+pub record Counted-on (at n after : ℕ) : Type 0 where
+  pub exact : after ≡ at + n
+  pub fits : 1 ≤ n → after < 2 ^ 64
+
+-- these bytes were moved, one by one, while the count of bytes moved went from `at` to `after`
+pub record Moved (Receipt : ℕ → ℕ → Type 0) (at after : ℕ) (bytes : List ℕ) : Type 0 where
+  pub counted : Counted-on at (length bytes) after
+  pub each : (i : ℕ) → i < length bytes → Receipt (at + i) (byte bytes i)
+
+-- what may still come where n bytes have come: nothing, if the input has ended there
+unfoldable pub May-follow : (n : ℕ) → (rest : List ℕ) → Type 0
+May-follow n rest = Ended n → rest ≡ []
