@@ -2,16 +2,16 @@
 use mathlib.Core.Path.{_≡_}
 use mathlib.Core.Bool.{true}
 use mathlib.Core.List.{List, [], _++_}
-use mathlib.Core.Logic.{_↔_}
-use Prim.Native.Nat.{ℕ, zero, suc, _-_, _≤_, _<_}
+use mathlib.Core.Logic.{_≢_, _↔_}
+use Prim.Native.Nat.{ℕ, zero, suc, _+_, _-_, _≤_, _<_}
 use lib.ListN.{length, take, drop}
-use Rattle.words.specs.Words.{member, Every, Rising, ends-with, state-of}
+use Rattle.words.specs.Words.{byte, member, Every, Rising, ends-with, state-of}
 use Rattle.automaton.specs.Ceilings.{byte-ceiling, total-ceiling}
 use Rattle.codes.specs.Codes.{accepted}
 use Rattle.codes.specs.Sheet.{sheet}
 use Rattle.finder.specs.declared.Watch.{Watch}
 use Rattle.finder.specs.declared.Ending.the-variants.{PieceDone}
-use Rattle.finder.specs.Feed.{opened, fit, place-if}
+use Rattle.finder.specs.Feed.{opened, fit, place-if, fed, feed}
 use Rattle.finder.specs.Machine.{Machine, machine-start, Call, machine-after, costs, sum}
 use Rattle.finder.specs.Runs.{watch-after, places-over, bytes-over}
 use Rattle.finder.specs.Entry.{ending-refusal, ending-full, feed-refusal, feed-answer, feed-places, Feed-call, Run-of, plain-calls, last-watch, written-places, taken-bytes, Refused-right}
@@ -44,6 +44,13 @@ unfoldable pub Alike-count : Type 0
 Alike-count =
     (w : List ℕ) (cs ds : List Call) → bytes-over w cs opened ≡ bytes-over w ds opened →
     (watch-after w cs opened ≡ watch-after w ds opened) × (places-over w cs opened ≡ places-over w ds opened)
+
+-- in state 0 a piece without the code's first byte is taken whole: each byte leads to 0 again at a cost of 1, and nothing is reported
+unfoldable pub Bytes-passed : Type 0
+Bytes-passed =
+    (w piece : List ℕ) (k : ℕ) (x : Watch) → 1 ≤ length w → x .state ≡ 0 → Every (λ c. byte w 0 ≢ c) piece →
+    let n = length piece in
+    feed w piece (suc k) x ≡ fed (record { state = 0; taken = x .taken + n; hits = x .hits; compares = x .compares + n }) n []
 
 -- THE SECOND DEMAND: the places that the calls write are those that the plain machine finds
 unfoldable pub Places-told : Type 0
