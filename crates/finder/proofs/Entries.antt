@@ -9,14 +9,16 @@ use lib.Seq.{take-at}
 use Rattle.codes.specs.Refusals.{refused-if, first-refusal}
 use Rattle.codes.specs.Codes.{accepted}
 use Rattle.codes.specs.Sheet.{sheet, in-front}
+use Rattle.codes.specs.Promise.{Prepare-makes}
 use Rattle.codes.proofs.Refusals.{accepted-bounds}
 use Rattle.codes.proofs.Sheets.{sheet-named, sheet-begins}
+use Rattle.codes.proofs.Entries.{prepare-makes}
 use Rattle.finder.specs.declared.Watch.{Watch}
 use Rattle.finder.specs.Feed.{opened, fit, Fed, feed, ending}
 use Rattle.finder.specs.Machine.{Machine, machine-start, Call, call-refusal, machine-call, machine-after}
 use Rattle.finder.specs.Runs.{called}
 use Rattle.finder.specs.Entry.{ending-refusal, feed-refusal, answer-by, feed-answer, feed-places, Feed-says, Feed-call, Run-of, plain, plain-calls, last-watch, written-places, taken-bytes, Refused-right}
-use Rattle.finder.specs.Promise.{after, places-in, Entries-count, Entries-alike}
+use Rattle.finder.specs.Promise.{after, places-in, Entries-count, Prepared-count, Entries-alike}
 use Rattle.finder.proofs.Endings.{ending-none}
 use Rattle.finder.proofs.Places.{places-stand-in}
 use Rattle.finder.proofs.Runs.{Simulates, simulates-start, simulates-call}
@@ -99,6 +101,12 @@ entries-count w rest es good r =
       rise = rw found (stand .0);
       stand = rw found (stand .1);
     }
+
+pub prepared-count : Prepared-count
+unfolding Prepared-count Entries-count Prepare-makes
+prepared-count w a es none r =
+    let made = prepare-makes w a none in
+    entries-count w (drop (length (sheet w)) a) es (made .0) (rw (made .1) at r)
 
 pub entries-alike : Entries-alike
 unfolding Entries-alike

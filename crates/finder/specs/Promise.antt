@@ -9,6 +9,7 @@ use Rattle.words.specs.Words.{byte, member, Every, Rising, ends-with, state-of}
 use Rattle.automaton.specs.Ceilings.{byte-ceiling, total-ceiling}
 use Rattle.codes.specs.Codes.{accepted}
 use Rattle.codes.specs.Sheet.{sheet}
+use Rattle.codes.specs.Entry.{prepare-refusal, prepare-buffer}
 use Rattle.finder.specs.declared.Watch.{Watch}
 use Rattle.finder.specs.declared.Ending.the-variants.{PieceDone}
 use Rattle.finder.specs.Feed.{opened, fit, place-if, fed, feed}
@@ -103,6 +104,12 @@ pub record Entries-counted (w : List ℕ) (es : List Feed-call) : Type 0 where
 unfoldable pub Entries-count : Type 0
 Entries-count =
     (w rest : List ℕ) (es : List Feed-call) → accepted w ≡ true → Run-of (sheet w ++ rest) es opened → Entries-counted w es
+
+-- so from preparing on: of any run on the buffer that preparing left, if it was not refused
+unfoldable pub Prepared-count : Type 0
+Prepared-count =
+    (w buffer : List ℕ) (es : List Feed-call) → prepare-refusal w (length buffer) ≡ 0 → Run-of (prepare-buffer w buffer) es opened →
+    Entries-counted w es
 
 -- two runs alike in the code and the bytes taken end alike
 unfoldable pub Entries-alike : Type 0
