@@ -10,6 +10,7 @@ use Rattle.automaton.specs.Ceilings.{byte-ceiling, total-ceiling}
 use Rattle.codes.specs.Codes.{accepted}
 use Rattle.codes.specs.Sheet.{sheet}
 use Rattle.codes.specs.Entry.{prepare-refusal, prepare-buffer}
+use Rattle.codes.specs.Promise.{Sheet-of}
 use Rattle.finder.specs.declared.Watch.{Watch}
 use Rattle.finder.specs.declared.Ending.the-variants.{PieceDone}
 use Rattle.finder.specs.Feed.{opened, fit, place-if, fed, feed}
@@ -81,6 +82,19 @@ Endings-told =
     (ending-refusal (r .ending) ≡ feed-refusal buffer x (length piece) room)
     × (ending-full (r .ending) ≡ 1 → (r .written ≡ room) × (r .taken < length piece))
     × (ending-refusal (r .ending) ≡ 0 → ending-full (r .ending) ≡ 0 → r .taken ≡ length piece)
+
+-- number 4 comes up exactly where the buffer does not begin with the sheet of an accepted code
+unfoldable pub Sheets-told : Type 0
+Sheets-told =
+    (buffer : List ℕ) (x : Watch) (piece : List ℕ) (room : ℕ) →
+    (ending-refusal (feed-answer buffer x piece room .ending) ≡ 4) ↔ (Sheet-of buffer → ⊥)
+
+-- bytes behind the sheet are not looked at, whatever the watch
+unfoldable pub Behind-unread : Type 0
+Behind-unread =
+    (w rest other : List ℕ) (x : Watch) (piece list : List ℕ) (room : ℕ) → accepted w ≡ true →
+    (feed-answer (sheet w ++ rest) x piece room ≡ feed-answer (sheet w ++ other) x piece room)
+    × (feed-places (sheet w ++ rest) x piece list ≡ feed-places (sheet w ++ other) x piece list)
 
 -- feeding goes on: a call that is not refused takes at least one byte of a piece that is not empty; an empty piece changes nothing and is done
 unfoldable pub Feeding-goes-on : Type 0
