@@ -1,3 +1,4 @@
+pub mod ArrowSamples
 pub mod Targets
 pub mod Labels
 pub mod Preparing

@@ -1,7 +1,7 @@
 -- Steps by cases, what they cost and how far they lead. Assumes nothing.
 use mathlib.Core.Path.{_≡_, refl, sym, _∙_}
 use mathlib.Core.Logic.{_≢_}
-use mathlib.Core.List.{List, [], _∷_}
+use mathlib.Core.List.{List, [], _∷_, _++_, map}
 use Prim.Native.Nat.{ℕ, suc, _+_, _-_, _≤_, _<_}
 use native.Mathlib.Omega.{arith}
 use lib.Dec.{ltb, eqb}
@@ -11,9 +11,9 @@ use Rattle.words.specs.Words.{byte, Every}
 use Rattle.words.proofs.Tests.{by-test}
 use Rattle.automaton.specs.declared.Step.{Step}
 use Rattle.automaton.specs.declared.Arrow.the-variants.{Back, Forward, Nothing}
-use Rattle.automaton.specs.Arrows.{label, back-targets, step, try-forward, try-back, stepped, arrow-number, arrow-target}
-use Rattle.automaton.specs.Promise.{Arrows-told}
-use Rattle.automaton.proofs.Targets.{label-suc, target-range}
+use Rattle.automaton.specs.Arrows.{label, forward, back-targets, step, try-forward, try-back, stepped, arrow-number, arrow-target}
+use Rattle.automaton.specs.Promise.{Arrows-told, labels-of, compared, Costs-right, Steps-at-zero}
+use Rattle.automaton.proofs.Targets.{label-suc, target-range, back-zero}
 use Rattle.automaton.proofs.Preparing.{arrows}
 
 -- ONE LABEL
@@ -94,3 +94,30 @@ arrows-told w p c =
     (λ l e. (λ n. absurd (omega arith), λ n. absurd (omega arith), λ n. refl))
     (λ l. (λ n. refl, λ n. absurd (omega arith), λ n. absurd (omega arith)))
     (λ l. (λ n. refl, λ n. absurd (omega arith), λ n. absurd (omega arith))))
+
+-- THE COST is the number of labels compared: those of the backward arrows, then the forward one
+forward-cost-is : (k : ℕ) (w : List ℕ) (p c : ℕ) → try-forward k w p c .cost ≡ k + compared c (forward w p)
+unfolding try-forward forward compared
+forward-cost-is k w p c =
+    by-test (ltb p (length w))
+    (λ t. by-test (eqb (byte w p) c) (λ e. rw (t, e) (omega arith)) (λ e. rw (t, e) (omega arith)))
+    (λ t. rw t (omega arith))
+
+back-cost-is : (ts : List ℕ) (k : ℕ) (w : List ℕ) (p c : ℕ) →
+    try-back ts k w p c .cost ≡ k + compared c (map (label w) ts ++ forward w p)
+unfolding try-back compared
+back-cost-is [] k w p c = forward-cost-is k w p c
+back-cost-is (t ∷ ts) k w p c =
+    by-test (eqb (label w t) c)
+    (λ e. rw e (omega arith))
+    (λ e. rw e (omega (arith, back-cost-is ts (suc k) w p c)))
+
+pub costs-right : Costs-right
+unfolding Costs-right stepped labels-of
+costs-right w p c = omega (arith, back-cost-is (back-targets w p) 0 w p c)
+
+-- STATE 0 has no backward arrow: one comparison with the code's first byte
+pub steps-at-zero : Steps-at-zero
+unfolding Steps-at-zero stepped try-back try-forward
+steps-at-zero w c some =
+    rw (back-zero w, lt-ltb 0 (length w) some) (λ e. rw (eq-eqb (byte w 0) c e), λ n. rw (ne-eqb (byte w 0) c n))

@@ -2,3 +2,4 @@ pub mod Arrows
 pub mod Preparing
 pub mod Ceilings
 pub mod Promise
+pub mod Samples

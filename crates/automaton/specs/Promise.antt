@@ -1,12 +1,14 @@
 -- What is promised of arrows and of single steps, for words of any length. Each statement is a type; docs/PROOFS.md names its proof. Assumes nothing.
 use mathlib.Core.Path.{_≡_}
-use mathlib.Core.Bool.{true}
-use mathlib.Core.List.{List, [], _∷_, _++_}
-use mathlib.Core.Logic.{_↔_}
+use mathlib.Core.Bool.{true, cond}
+use mathlib.Core.List.{List, [], _∷_, _++_, map}
+use mathlib.Core.Logic.{_≢_, _↔_}
 use Prim.Native.Nat.{ℕ, suc, _^_, _≤_, _<_}
+use lib.Dec.{eqb}
 use lib.ListN.{length, take}
-use Rattle.words.specs.Words.{member, Falling, state-of}
-use Rattle.automaton.specs.Arrows.{back-targets, back-arrows, stepped, arrow-to, arrow-number, arrow-target}
+use Rattle.words.specs.Words.{byte, member, Falling, state-of}
+use Rattle.automaton.specs.declared.Arrow.the-variants.{Forward, Nothing}
+use Rattle.automaton.specs.Arrows.{label, forward, back-targets, back-arrows, step, stepped, arrow-to, arrow-number, arrow-target}
 use Rattle.automaton.specs.Ceilings.{log2, byte-ceiling}
 
 -- THE PAPER'S ARROWS. An arrow (p, a, q) leads from the first p bytes on byte a to the longest start that they, followed by a, end with
@@ -42,6 +44,25 @@ Targets-right = (w : List ℕ) (p t : ℕ) → p ≤ length w → (member t (bac
 -- each is listed once, the largest first
 unfoldable pub Targets-fall : Type 0
 Targets-fall = (w : List ℕ) (p : ℕ) → Falling (back-targets w p)
+
+-- THE COST of a byte. The labels of a state in the order in which they are compared: the backward ones by falling target, then the forward one
+unfoldable pub labels-of : (w : List ℕ) → (p : ℕ) → List ℕ
+labels-of w p = map (label w) (back-targets w p) ++ forward w p
+
+-- how many of some labels are compared with byte c: up to the first equal one, that one included
+unfoldable pub compared : (c : ℕ) → (labels : List ℕ) → ℕ
+compared c [] = 0
+compared c (l ∷ ls) = cond (eqb l c) 1 (suc (compared c ls))
+
+-- every step costs just that
+unfoldable pub Costs-right : Type 0
+Costs-right = (w : List ℕ) (p c : ℕ) → stepped w p c .cost ≡ compared c (labels-of w p)
+
+-- in state 0 the code's first byte leads to 1 by the forward arrow, any other to 0 by none, each at a cost of 1
+unfoldable pub Steps-at-zero : Type 0
+Steps-at-zero =
+    (w : List ℕ) (c : ℕ) → 1 ≤ length w →
+    (byte w 0 ≡ c → stepped w 0 c ≡ step 1 1 Forward) × (byte w 0 ≢ c → stepped w 0 c ≡ step 0 1 Nothing)
 
 -- no code has more backward arrows than bytes
 unfoldable pub Few-arrows : Type 0

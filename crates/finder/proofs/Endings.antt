@@ -1,5 +1,5 @@
 -- What an answer's ending says, and that feeding goes on. Assumes nothing.
-use mathlib.Core.Path.{_≡_, refl, ap, _∙_}
+use mathlib.Core.Path.{_≡_, refl, sym, ap, _∙_}
 use mathlib.Core.Bool.{Bool, true, false, _&&_, cond, and-false}
 use mathlib.Core.Logic.{_≢_}
 use mathlib.Core.List.{List, [], _∷_}
@@ -8,16 +8,18 @@ use native.Mathlib.Omega.{arith}
 use borrow.Author.Tests.{ltb-true, eqb-true, eq-eqb, lt-ltb}
 use lib.Dec.{ltb, eqb}
 use lib.ListN.{length, length-append}
-use Rattle.words.proofs.Tests.{by-le, by-eq, and-left, and-right}
+use Rattle.words.proofs.Tests.{by-test, by-le, by-eq, and-left, and-right}
 use Rattle.automaton.specs.Arrows.{stepped}
-use Rattle.codes.specs.Sheet.{named, in-front}
+use Rattle.codes.specs.Sheet.{named, begins, in-front}
+use Rattle.codes.specs.Promise.{Begins-right}
+use Rattle.codes.proofs.Sheets.{begins-right}
 use Rattle.finder.specs.declared.Watch.{Watch}
 use Rattle.finder.specs.declared.Ending.the-variants.{PieceDone, ListFull}
 use Rattle.finder.specs.Feed.{reported, with-byte, Fed, fed-more, feed, ending}
 use Rattle.finder.specs.Entry.{ending-refusal, ending-full, feed-refusal, fed-answer, answer-by, feed-answer, feed-places}
-use Rattle.finder.specs.Promise.{Endings-told, Feeding-goes-on}
+use Rattle.finder.specs.Promise.{Endings-told, Sheets-told, Feeding-goes-on}
 use Rattle.finder.proofs.Places.{place-one}
-use Rattle.finder.proofs.Refusing.{none-room}
+use Rattle.finder.proofs.Refusing.{refuses-4, never-4, none-room}
 
 -- WHERE FEEDING STOPS: within the piece, and before its end only when the list is full
 reported-one : (w : List ℕ) (c : ℕ) (x : Watch) → length (reported w c x) ≤ 1
@@ -93,6 +95,16 @@ endings-told bs x cs k = go (feed-refusal bs x (length cs) k)
         × (ending-refusal (r .ending) ≡ 0 → ending-full (r .ending) ≡ 0 → r .taken ≡ length cs)
     go zero = (ending-none cs k (feed (named bs) cs k x), full-says cs k (feed (named bs) cs k x), λ z. done-says (named bs) cs k x)
     go (suc n) = (refl, λ e. absurd (omega arith), λ z e. absurd (omega (arith, z)))
+
+-- NUMBER 4
+pub sheets-told : Sheets-told
+unfolding Sheets-told Endings-told Begins-right
+sheets-told bs x cs k =
+    let r = endings-told bs x cs k .0 in
+    let b = begins-right bs in (
+      λ e u. never-4 bs x (length cs) k (b .1 u) (sym r ∙ e),
+      λ f. by-test (begins bs) (λ t. absurd (f (b .0 t))) (λ t. r ∙ refuses-4 bs x (length cs) k t),
+    )
 
 -- AN EMPTY PIECE
 empty-changes : (w a : List ℕ) (k : ℕ) (x : Watch) →

@@ -9,14 +9,16 @@ use lib.Seq.{take-at}
 use Rattle.codes.specs.Refusals.{refused-if, first-refusal}
 use Rattle.codes.specs.Codes.{accepted}
 use Rattle.codes.specs.Sheet.{sheet, in-front}
+use Rattle.codes.specs.Promise.{Prepare-makes}
 use Rattle.codes.proofs.Refusals.{accepted-bounds}
 use Rattle.codes.proofs.Sheets.{sheet-named, sheet-begins}
+use Rattle.codes.proofs.Entries.{prepare-makes}
 use Rattle.finder.specs.declared.Watch.{Watch}
 use Rattle.finder.specs.Feed.{opened, fit, Fed, feed, ending}
 use Rattle.finder.specs.Machine.{Machine, machine-start, Call, call-refusal, machine-call, machine-after}
 use Rattle.finder.specs.Runs.{called}
 use Rattle.finder.specs.Entry.{ending-refusal, feed-refusal, answer-by, feed-answer, feed-places, Feed-says, Feed-call, Run-of, plain, plain-calls, last-watch, written-places, taken-bytes, Refused-right}
-use Rattle.finder.specs.Promise.{after, places-in, Entries-count, Entries-alike}
+use Rattle.finder.specs.Promise.{after, places-in, Behind-unread, Entries-count, Prepared-count, Entries-alike}
 use Rattle.finder.proofs.Endings.{ending-none}
 use Rattle.finder.proofs.Places.{places-stand-in}
 use Rattle.finder.proofs.Runs.{Simulates, simulates-start, simulates-call}
@@ -100,7 +102,19 @@ entries-count w rest es good r =
       stand = rw found (stand .1);
     }
 
+pub prepared-count : Prepared-count
+unfolding Prepared-count Entries-count Prepare-makes
+prepared-count w a es none r =
+    let made = prepare-makes w a none in
+    entries-count w (drop (length (sheet w)) a) es (made .0) (rw (made .1) at r)
+
 pub entries-alike : Entries-alike
 unfolding Entries-alike
 entries-alike w rest other es fs good r q e =
     alike (entries-run w rest good es r .0) (entries-run w other good fs q .0) e
+
+-- BEHIND THE SHEET: neither the refusal nor the code depends on it
+pub behind-unread : Behind-unread
+unfolding Behind-unread feed-answer feed-places feed-refusal
+behind-unread w rest other x cs a k good =
+    simp (sheet-begins w rest good, sheet-begins w other good, sheet-named w rest, sheet-named w other) (refl, refl)

@@ -8,6 +8,7 @@ use borrow.Author.Tests.{eq-eqb, ne-eqb, lt-ltb, le-ltb, ltb-false, eqb-false, n
 use native.Mathlib.Omega.{arith}
 use lib.Dec.{ltb, eqb}
 use lib.ListN.{length}
+use Rattle.words.proofs.Tests.{by-test, by-eq, by-le}
 use Rattle.codes.specs.Refusals.{refused-if, first-refusal}
 use Rattle.codes.specs.Sheet.{named, begins}
 use Rattle.codes.proofs.Refusals.{refused, passed, none-first, none-later, accepted-bounds}
@@ -64,6 +65,18 @@ module _ (bs : List ℕ) (x : Watch) (l k : ℕ) where
         pub refuses-none : x .taken + l ≤ longest-text → feed-refusal bs x l k ≡ 0
         unfolding first-refusal
         refuses-none h = past-6 ∙ passed 7 (ltb longest-text (x .taken + l)) [] (le-ltb longest-text (x .taken + l) h)
+
+    pub never-4 : feed-refusal bs x l k ≢ 4
+    never-4 e =
+        by-test (fit (length (named bs)) x)
+        (λ f.
+        by-eq k 0
+        (λ (z : k ≡ 0). omega (arith, refuses-6 f z, e))
+        (λ (n : k ≢ 0).
+        by-le (x .taken + l) longest-text
+        (λ (h : x .taken + l ≤ longest-text). omega (arith, refuses-none f n h, e))
+        (λ (h : longest-text < x .taken + l). omega (arith, refuses-7 f n h, e))))
+        (λ f. omega (arith, refuses-5 f, e))
 
   -- NO REFUSAL: the buffer begins with a sheet, and the watch can take the piece
   module _ (e : feed-refusal bs x l k ≡ 0) where

@@ -9,5 +9,7 @@ use Rattle.finder.specs.Machine.{cost-after, costs}
 use Rattle.finder.specs.Samples.{prepared, fed-whole, searched, costing, calling, samples, Samples-hold}
 
 pub samples-hold : Samples-hold
-unfolding byte member same ends-with is-border largest state-of label targets-from forward back-targets targets-below try-forward try-back stepped halvings log2 different byte-ceiling total-ceiling number numbers counts-below layout sheet place-if reported with-byte fed-more feed ending cost-after costs prepared fed-whole searched costing calling samples Samples-hold
+unfolding byte member same ends-with is-border largest state-of label targets-from forward back-targets targets-below try-forward try-back stepped
+    halvings log2 different byte-ceiling total-ceiling number numbers counts-below layout sheet
+    place-if reported with-byte fed-more feed ending cost-after costs prepared fed-whole searched costing calling samples Samples-hold
 samples-hold = refl

@@ -6,26 +6,26 @@ use Prim.Native.Nat.{ℕ, zero, suc, _+_, _-_, _≤_, _<_}
 use native.Mathlib.Nat.{min-le-left, add-zero, sub-zero}
 use native.Mathlib.Numerals.{add-one}
 use native.Mathlib.Omega.{arith}
-use borrow.Author.Tests.{eq-eqb, ne-eqb, lt-ltb}
+use borrow.Author.Tests.{eq-eqb, ne-eqb}
 use lib.Dec.{eqb}
-use lib.ListN.{length, getD, drop}
+use lib.ListN.{length, getD, drop, drop-of-length-le}
 use lib.Seq.{drop-cons}
 use Rattle.words.specs.Words.{byte}
 use Rattle.words.proofs.Tests.{by-eq, by-le}
+use Rattle.words.proofs.Lists.{every-at}
 use Rattle.automaton.specs.declared.Step.{Step}
-use Rattle.automaton.specs.declared.Arrow.the-variants.{Forward, Nothing}
-use Rattle.automaton.specs.Arrows.{step, try-forward, try-back, stepped}
+use Rattle.automaton.specs.Arrows.{stepped}
 use Rattle.automaton.specs.Ceilings.{log2, different, byte-ceiling}
-use Rattle.automaton.specs.Promise.{Byte-below}
-use Rattle.automaton.proofs.Targets.{back-zero}
-use Rattle.automaton.proofs.Steps.{step-bounds}
+use Rattle.automaton.specs.Promise.{Steps-at-zero, Byte-below}
+use Rattle.automaton.proofs.Steps.{step-bounds, steps-at-zero}
 use Rattle.automaton.proofs.Logarithm.{log2-bound}
 use Rattle.automaton.proofs.ByteCeiling.{byte-below}
 use Rattle.codes.specs.Codes.{longest-code}
 use Rattle.codes.specs.Sheet.{named}
 use Rattle.finder.specs.declared.Watch.{Watch}
 use Rattle.finder.specs.declared.Turn.{Turn}
-use Rattle.finder.specs.Feed.{place-if, reported, with-byte, Fed, fed-more, feed}
+use Rattle.finder.specs.Feed.{place-if, reported, with-byte, Fed, fed, fed-more, feed}
+use Rattle.finder.specs.Promise.{Bytes-passed}
 use Rattle.finder.specs.Inside.{Ready, completed, with-run, missed, Skipped, Turning, Turned}
 use Rattle.finder.proofs.Places.{place-one}
 use Rattle.finder.proofs.Reading.{read-code}
@@ -132,23 +132,14 @@ turned-on {w} {piece} {x} {i} {t} {u} a short b =
           ∙ ap (λ (n : ℕ). fed-more n last (feed w (drop (u .at) piece) (suc k - length last) (u .watch))) all;
     }
 
--- STATE 0: one comparison with the code's first byte
-module _ (w : List ℕ) (c : ℕ) (some : 1 ≤ length w) where
-  pub start-on : byte w 0 ≡ c → stepped w 0 c ≡ step 1 1 Forward
-  unfolding stepped try-back try-forward
-  start-on e = rw (back-zero w, lt-ltb 0 (length w) some, eq-eqb (byte w 0) c e)
-
-  start-off : byte w 0 ≢ c → stepped w 0 c ≡ step 0 1 Nothing
-  unfolding stepped try-back try-forward
-  start-off n = rw (back-zero w, lt-ltb 0 (length w) some, ne-eqb (byte w 0) c n)
-
-  byte-missed : (x : Watch) → x .state ≡ 0 → byte w 0 ≢ c → with-byte w c x ≡ missed 1 x
-  unfolding with-byte reported place-if
-  byte-missed x e n =
-      let none : 0 ≢ length w = λ z. omega arith in
-      let at : x .taken + 1 ≡ suc (x .taken) = add-one (x .taken) in
-      let same : x .hits + 0 ≡ x .hits = omega arith in
-      rw (e, start-off n) (rw (ne-eqb 0 (length w) none) (rw (at, same) refl))
+-- STATE 0: a byte other than the code's first
+byte-missed : (w : List ℕ) (c : ℕ) → 1 ≤ length w → (x : Watch) → x .state ≡ 0 → byte w 0 ≢ c → with-byte w c x ≡ missed 1 x
+unfolding with-byte reported place-if Steps-at-zero
+byte-missed w c some x e n =
+    let none : 0 ≢ length w = λ z. omega arith in
+    let at : x .taken + 1 ≡ suc (x .taken) = add-one (x .taken) in
+    let same : x .hits + 0 ≡ x .hits = omega arith in
+    rw (e, steps-at-zero w c some .1 n) (rw (ne-eqb 0 (length w) none) (rw (at, same) refl))
 
 missed-more : (x : Watch) (n : ℕ) → missed n (missed 1 x) ≡ missed (suc n) x
 missed-more x n =
@@ -178,6 +169,15 @@ feed-missed w piece (suc n) i k x some e h f =
     (feed-missed w piece n (i + 1) k (missed 1 x) some refl (omega arith) (λ j lo hi. f j (omega arith) (omega arith)))
     ∙ more-more 1 n [] [] (feed w (drop (i + 1 + n) piece) (suc k) (missed n (missed 1 x)))
     ∙ rw (one, at, missed-more x n) refl)
+
+pub bytes-passed : Bytes-passed
+unfolding Bytes-passed feed fed-more
+bytes-passed w cs k x some e all =
+    let n : ℕ = length cs in
+    let none : drop n cs ≡ [] = drop-of-length-le cs {i = n} (omega arith) in
+    let at : 0 + n ≡ n = omega arith in
+    feed-missed w cs n 0 k x some e (omega arith) (λ j lo hi z. every-at (λ c. byte w 0 ≢ c) cs j all (omega arith) (sym z))
+    ∙ rw (at, none) (ap (λ (j : ℕ). fed (missed n x) j []) (add-zero n))
 
 -- A TURN from state 0: the bytes up to the code's first, and that one if it comes
 module _ {bs : List ℕ} {m : ℕ} {x : Watch} {piece : List ℕ} {i : ℕ} (t : Turning bs m x piece i) (e : x .state ≡ 0) (j : ℕ) (s : Skipped piece i (getD bs 1 0) j) where

@@ -2,16 +2,18 @@
 use mathlib.Core.Path.{_≡_}
 use mathlib.Core.Bool.{true}
 use mathlib.Core.List.{List, [], _++_}
-use mathlib.Core.Logic.{_↔_}
-use Prim.Native.Nat.{ℕ, zero, suc, _-_, _≤_, _<_}
+use mathlib.Core.Logic.{_≢_, _↔_}
+use Prim.Native.Nat.{ℕ, zero, suc, _+_, _-_, _≤_, _<_}
 use lib.ListN.{length, take, drop}
-use Rattle.words.specs.Words.{member, Every, Rising, ends-with, state-of}
+use Rattle.words.specs.Words.{byte, member, Every, Rising, ends-with, state-of}
 use Rattle.automaton.specs.Ceilings.{byte-ceiling, total-ceiling}
 use Rattle.codes.specs.Codes.{accepted}
 use Rattle.codes.specs.Sheet.{sheet}
+use Rattle.codes.specs.Entry.{prepare-refusal, prepare-buffer}
+use Rattle.codes.specs.Promise.{Sheet-of}
 use Rattle.finder.specs.declared.Watch.{Watch}
 use Rattle.finder.specs.declared.Ending.the-variants.{PieceDone}
-use Rattle.finder.specs.Feed.{opened, fit, place-if}
+use Rattle.finder.specs.Feed.{opened, fit, place-if, fed, feed}
 use Rattle.finder.specs.Machine.{Machine, machine-start, Call, machine-after, costs, sum}
 use Rattle.finder.specs.Runs.{watch-after, places-over, bytes-over}
 use Rattle.finder.specs.Entry.{ending-refusal, ending-full, feed-refusal, feed-answer, feed-places, Feed-call, Run-of, plain-calls, last-watch, written-places, taken-bytes, Refused-right}
@@ -45,6 +47,13 @@ Alike-count =
     (w : List ℕ) (cs ds : List Call) → bytes-over w cs opened ≡ bytes-over w ds opened →
     (watch-after w cs opened ≡ watch-after w ds opened) × (places-over w cs opened ≡ places-over w ds opened)
 
+-- in state 0 a piece without the code's first byte is taken whole: each byte leads to 0 again at a cost of 1, and nothing is reported
+unfoldable pub Bytes-passed : Type 0
+Bytes-passed =
+    (w piece : List ℕ) (k : ℕ) (x : Watch) → 1 ≤ length w → x .state ≡ 0 → Every (λ c. byte w 0 ≢ c) piece →
+    let n = length piece in
+    feed w piece (suc k) x ≡ fed (record { state = 0; taken = x .taken + n; hits = x .hits; compares = x .compares + n }) n []
+
 -- THE SECOND DEMAND: the places that the calls write are those that the plain machine finds
 unfoldable pub Places-told : Type 0
 Places-told = (w : List ℕ) (cs : List Call) → places-over w cs opened ≡ after w cs .found
@@ -74,6 +83,19 @@ Endings-told =
     × (ending-full (r .ending) ≡ 1 → (r .written ≡ room) × (r .taken < length piece))
     × (ending-refusal (r .ending) ≡ 0 → ending-full (r .ending) ≡ 0 → r .taken ≡ length piece)
 
+-- number 4 comes up exactly where the buffer does not begin with the sheet of an accepted code
+unfoldable pub Sheets-told : Type 0
+Sheets-told =
+    (buffer : List ℕ) (x : Watch) (piece : List ℕ) (room : ℕ) →
+    (ending-refusal (feed-answer buffer x piece room .ending) ≡ 4) ↔ (Sheet-of buffer → ⊥)
+
+-- bytes behind the sheet are not looked at, whatever the watch
+unfoldable pub Behind-unread : Type 0
+Behind-unread =
+    (w rest other : List ℕ) (x : Watch) (piece list : List ℕ) (room : ℕ) → accepted w ≡ true →
+    (feed-answer (sheet w ++ rest) x piece room ≡ feed-answer (sheet w ++ other) x piece room)
+    × (feed-places (sheet w ++ rest) x piece list ≡ feed-places (sheet w ++ other) x piece list)
+
 -- feeding goes on: a call that is not refused takes at least one byte of a piece that is not empty; an empty piece changes nothing and is done
 unfoldable pub Feeding-goes-on : Type 0
 Feeding-goes-on =
@@ -96,6 +118,12 @@ pub record Entries-counted (w : List ℕ) (es : List Feed-call) : Type 0 where
 unfoldable pub Entries-count : Type 0
 Entries-count =
     (w rest : List ℕ) (es : List Feed-call) → accepted w ≡ true → Run-of (sheet w ++ rest) es opened → Entries-counted w es
+
+-- so from preparing on: of any run on the buffer that preparing left, if it was not refused
+unfoldable pub Prepared-count : Type 0
+Prepared-count =
+    (w buffer : List ℕ) (es : List Feed-call) → prepare-refusal w (length buffer) ≡ 0 → Run-of (prepare-buffer w buffer) es opened →
+    Entries-counted w es
 
 -- two runs alike in the code and the bytes taken end alike
 unfoldable pub Entries-alike : Type 0

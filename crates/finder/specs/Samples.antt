@@ -1,18 +1,13 @@
 -- Document 01's bench samples that are marked P, as one table. Assumes nothing: these are definitions.
-use mathlib.Core.Path.{_≡_}
-use mathlib.Core.List.{List, [], _∷_, map}
+use mathlib.Core.List.{List, [], _∷_}
 use Prim.Native.Nat.{ℕ, suc}
 use lib.ListN.{length}
 use Rattle.automaton.specs.Ceilings.{byte-ceiling, total-ceiling}
+use Rattle.automaton.specs.Samples.{Sample, Agree, A, B, C, Z, abaab}
 use Rattle.codes.specs.Sheet.{sheet}
 use Rattle.finder.specs.Feed.{opened, Fed, feed, ending}
 use Rattle.finder.specs.Machine.{costs}
 use Rattle.finder.specs.Entry.{ending-full}
-
--- A SAMPLE: lists of numbers as the definitions give them, and as the document says, or its rules where it gives no number
-pub record Sample : Type 0 where
-  pub found : List (List ℕ)
-  pub expected : List (List ℕ)
 
 -- the sheet of a code
 unfoldable pub prepared : (code bytes : List ℕ) → Sample
@@ -23,12 +18,12 @@ unfoldable pub fed-whole : (code text : List ℕ) → Fed
 fed-whole w ts = feed w ts (suc (length ts)) opened
 
 -- the places of a code in a text; the bytes taken, the places reported, the comparisons and the total ceiling
-unfoldable pub searched : (code text places : List ℕ) → (compares ceiling : ℕ) → Sample
-searched w ts ps k n =
+unfoldable pub searched : (code text places : List ℕ) → (bytes hits compares ceiling : ℕ) → Sample
+searched w ts ps n h k c =
     let f = fed-whole w ts in
     record {
       found = f .places ∷ (f .taken ∷ f .after .hits ∷ f .after .compares ∷ total-ceiling (length w) (length ts) ∷ []) ∷ [];
-      expected = ps ∷ (length ts ∷ length ps ∷ k ∷ n ∷ []) ∷ [];
+      expected = ps ∷ (n ∷ h ∷ k ∷ c ∷ []) ∷ [];
     }
 
 -- the costs of a text's bytes, one by one; the byte ceiling
@@ -45,22 +40,6 @@ calling w cs k ps ws n e =
       expected = ps ∷ ws ∷ (n ∷ e ∷ []) ∷ [];
     }
 
--- the letters a, b, c and z
-abbrev A : ℕ
-A = 97
-
-abbrev B : ℕ
-B = 98
-
-abbrev C : ℕ
-C = 99
-
-abbrev Z : ℕ
-Z = 122
-
-abbrev pub abaab : List ℕ
-abaab = A ∷ B ∷ A ∷ A ∷ B ∷ []
-
 -- THE TABLE
 unfoldable pub samples : List Sample
 samples =
@@ -68,15 +47,15 @@ samples =
     ∷ prepared (A ∷ A ∷ A ∷ []) (3 ∷ 97 ∷ 97 ∷ 97 ∷ 0 ∷ 0 ∷ 0 ∷ 1 ∷ 3 ∷ [])
     ∷ prepared (A ∷ A ∷ B ∷ []) (3 ∷ 97 ∷ 97 ∷ 98 ∷ 0 ∷ 0 ∷ 1 ∷ 2 ∷ 2 ∷ 1 ∷ [])
     ∷ prepared abaab (5 ∷ 97 ∷ 98 ∷ 97 ∷ 97 ∷ 98 ∷ 0 ∷ 1 ∷ 1 ∷ 2 ∷ 3 ∷ 4 ∷ 1 ∷ 2 ∷ 1 ∷ 3 ∷ [])
-    ∷ searched (A ∷ A ∷ []) (A ∷ A ∷ A ∷ A ∷ []) (0 ∷ 1 ∷ 2 ∷ []) 4 6
-    ∷ searched (A ∷ B ∷ []) (A ∷ B ∷ A ∷ B ∷ []) (0 ∷ 2 ∷ []) 6 6
-    ∷ searched (A ∷ B ∷ A ∷ C ∷ []) (A ∷ B ∷ A ∷ Z ∷ []) [] 7 7
+    ∷ searched (A ∷ A ∷ []) (A ∷ A ∷ A ∷ A ∷ []) (0 ∷ 1 ∷ 2 ∷ []) 4 3 4 6
+    ∷ searched (A ∷ B ∷ []) (A ∷ B ∷ A ∷ B ∷ []) (0 ∷ 2 ∷ []) 4 2 6 6
+    ∷ searched (A ∷ B ∷ A ∷ C ∷ []) (A ∷ B ∷ A ∷ Z ∷ []) [] 4 0 7 7
     ∷ costing (A ∷ B ∷ A ∷ C ∷ []) (A ∷ B ∷ A ∷ Z ∷ []) (1 ∷ 2 ∷ 1 ∷ 3 ∷ []) 3
-    ∷ searched abaab (A ∷ B ∷ A ∷ A ∷ B ∷ A ∷ B ∷ A ∷ A ∷ B ∷ []) (0 ∷ 5 ∷ []) 15 18
+    ∷ searched abaab (A ∷ B ∷ A ∷ A ∷ B ∷ A ∷ B ∷ A ∷ A ∷ B ∷ []) (0 ∷ 5 ∷ []) 10 2 15 18
     ∷ calling (A ∷ A ∷ []) (A ∷ A ∷ A ∷ A ∷ []) 1 (0 ∷ []) (2 ∷ 2 ∷ 1 ∷ 2 ∷ []) 2 1
-    ∷ searched abaab [] [] 0 0
+    ∷ searched abaab [] [] 0 0 0 0
     ∷ []
 
--- what is found is what is expected, row by row
+-- all its rows agree: what is found is what is expected
 unfoldable pub Samples-hold : Type 0
-Samples-hold = map (λ s. s .found) samples ≡ map (λ s. s .expected) samples
+Samples-hold = Agree samples
