@@ -1,6 +1,7 @@
-/* An example for the order desk: prints a code's sheet in hexadecimal and both of its ceilings.
+/* An example for the order desk: prints a code's sheet in hexadecimal and both of its ceilings. In the repository's root:
 
-       desk CODE [BYTES]
+       rt staticlib desk && gcc -O2 c/desk.c target/staticlib/libdesk.a -o target/desk
+       target/desk CODE [BYTES]
 
    BYTES is the length of the text for which the total ceiling is told, 1000000 if it is left out. Exit status: 0, 1 if the finder refuses the
    code, 2 if the arguments are not of this form. */
