@@ -74,7 +74,7 @@ module _ (l : Line) (a : List ℕ) (g : goes-on l ≡ true) {at k after : ℕ} {
       )
 
 pub line-failed : (l : Line) (a c : List ℕ) (at after : ℕ) → Told → Line-read l a at (start Wrong false false) c after × Rises false at after
-line-failed l a c at after t = (record { so-far = is-told t; goes = λ h. h }, λ h. absurd (true≢false (sym h)))
+line-failed l a c at after t = (record { so-far = is-told t tt; goes = λ h. h }, λ h. absurd (true≢false (sym h)))
 
 -- TURN AFTER TURN
 line-join : {l k n : Line} {a b c : List ℕ} {at mid after : ℕ} → goes-on k ≡ true →

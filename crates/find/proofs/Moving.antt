@@ -12,11 +12,11 @@ use Rattle.find.specs.Receipts.{Came, Told, Counted-on, Moved}
 use Rattle.find.specs.Program.{Done-or-told, Rises, Brought}
 
 -- something is done, or it is told that it is not
-pub is-done : {D : Type 0} → D → Done-or-told true D
+pub is-done : {D E : Type 0} → D → Done-or-told true D E
 is-done d = record { done = λ _. d; told = λ e. absurd (true≢false e) }
 
-pub is-told : {D : Type 0} → Told → Done-or-told false D
-is-told t = record { done = λ e. absurd (true≢false (sym e)); told = λ _. t }
+pub is-told : {D E : Type 0} → Told → E → Done-or-told false D E
+is-told t h = record { done = λ e. absurd (true≢false (sym e)); told = λ _. (t, h) }
 
 -- NO BYTES, and one part after another
 pub moved-none : (P : ℕ → ℕ → Type 0) (at : ℕ) → Moved P at at []

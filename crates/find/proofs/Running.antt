@@ -1,7 +1,7 @@
 -- The whole run: the first line came, and its refusal was sent or the text behind it searched. Assumes nothing.
-use mathlib.Core.Path.{_≡_, sym, _∙_}
+use mathlib.Core.Path.{_≡_, refl, sym, _∙_}
 use mathlib.Core.Bool.{Bool, true, false}
-use mathlib.Core.List.{List, _++_, append-assoc, append-nil}
+use mathlib.Core.List.{List, [], _++_, append-assoc, append-nil}
 use mathlib.Core.Logic.{_≢_}
 use Prim.Native.Nat.{ℕ}
 use native.Mathlib.Omega.{arith}
@@ -16,10 +16,10 @@ use Rattle.forms.specs.Text.{refused-form}
 use Rattle.find.specs.declared.Start.{Start}
 use Rattle.find.specs.declared.Scan.{Scan}
 use Rattle.find.specs.Printed.{line-refusal, line-sheet}
-use Rattle.find.specs.Output.{output-after, output}
-use Rattle.find.specs.Receipts.{Sent, Moved, May-follow}
-use Rattle.find.specs.Program.{Sent-or-told, Line-on, Line-read, Search-on, Searched, Complete, Ran}
-use Rattle.find.proofs.Moving.{moved-join}
+use Rattle.find.specs.Output.{cut, text-output, output-after, output}
+use Rattle.find.specs.Receipts.{Came, Sent, Moved, May-follow}
+use Rattle.find.specs.Program.{Sent-or-told, Line-on, Line-read, Search-on, Search-stopped, Searched, Complete, Stopped, Ran}
+use Rattle.find.proofs.Moving.{moved-none, moved-join}
 use Rattle.find.proofs.FirstLine.{read-over}
 
 -- a wrong line is refused
@@ -47,20 +47,46 @@ module _
         right = λ rest p. sym (line-then rest (λ _. p) ∙ rw (ne-eqb refusal 0 h));
       }
 
+  -- behind a line that is not refused, whatever follows it
+  search-then : refusal ≡ 0 → (rest : List ℕ) → output (f .bytes ++ rest) ≡ text-output (line-sheet line kept (replicate 767 0)) (cut rest) opened
+  unfolding output-after
+  search-then none rest = line-then rest (λ w. absurd (refusal-wrong line kept 767 none w)) ∙ rw (eq-eqb refusal 0 none)
+
   run-searched : {y : Watch} {came sent : ℕ} → refusal ≡ 0 →
       Search-on (line-sheet line kept (replicate 767 0)) opened mid 0 y false came sent → Complete came sent
-  unfolding output-after
   run-searched none g =
       record {
         bytes = f .bytes ++ g .bytes;
         out = g .out;
         read = moved-join (f .came) (g .came);
         wrote = g .sent;
-        right = λ rest p.
-            let first = line-then (g .bytes ++ rest) (λ w. absurd (refusal-wrong line kept 767 none w)) in
-            let then = g .prints rest (λ _. p) ∙ append-nil (g .out) in
-            rw append-assoc (sym (first ∙ rw (eq-eqb refusal 0 none) then));
+        right = λ rest p. rw append-assoc (sym (search-then none (g .bytes ++ rest) ∙ g .prints rest (λ _. p) ∙ append-nil (g .out)));
       }
+
+  run-stopped : {sent : ℕ} → refusal ≡ 0 → Search-stopped (line-sheet line kept (replicate 767 0)) opened mid 0 sent → Stopped sent
+  run-stopped none g =
+      record {
+        came = g .mid;
+        bytes = f .bytes ++ g .bytes;
+        out = g .out;
+        read = moved-join (f .came) (g .came);
+        wrote = g .sent;
+        begins = λ rest.
+            let b = g .begins rest in
+            record { rest = b .rest; is = rw append-assoc (search-then none (g .bytes ++ rest) ∙ b .is) };
+      }
+
+-- stopped where nothing was sent
+pub ran-not : {from sent : ℕ} → from ≡ 0 → sent ≡ from → Stopped sent
+ran-not z e =
+    record {
+      came = 0;
+      bytes = [];
+      out = [];
+      read = moved-none Came 0;
+      wrote = rw (e, z) (moved-none Sent 0);
+      begins = λ rest. record { rest = output rest; is = refl };
+    }
 
 -- from where the functions leave it: the first line read, with counts that began at 0
 module _
@@ -75,12 +101,15 @@ module _
   pub ran-refused : {n sent : ℕ} {r : Bool} → n ≡ line-refusal (q .line) kept 767 → n ≢ 0 →
       Sent-or-told from (refused-form n) r sent → Ran r mid sent
   ran-refused e h p =
-      record { done = λ d. run-refused line-is line-over (rw e at h) (rw (zero-sent, e) at (p .done d)); told = p .told }
+      record {
+        done = λ d. run-refused line-is line-over (rw e at h) (rw (zero-sent, e) at (p .done d));
+        told = λ d. (p .told d .0, ran-not zero-sent (p .told d .1));
+      }
 
   pub ran-searched : {s : List ℕ} {n came sent : ℕ} {r : Scan} → n ≡ line-refusal (q .line) kept 767 → n ≡ 0 →
       s ≡ line-sheet (q .line) kept (replicate 767 0) → r .more ≡ false → Searched s opened mid from r came sent → Ran (r .ok) came sent
   ran-searched e none i over g =
       record {
         done = λ d. run-searched line-is line-over (sym e ∙ none) (rw (zero-sent, i, over) at (g .so-far .done d));
-        told = g .so-far .told;
+        told = λ d. (g .so-far .told d .0, run-stopped line-is line-over (sym e ∙ none) (rw (zero-sent, i) at (g .so-far .told d .1)));
       }

@@ -18,7 +18,7 @@ use Rattle.find.specs.declared.Scan.{Scan}
 use Rattle.find.specs.Printed.{piece-size, last, piece-form, piece-watch, Piece-taken}
 use Rattle.find.specs.Output.{cut, text-output}
 use Rattle.find.specs.Receipts.{Came, Ended, Sent, Told, Moved, May-follow}
-use Rattle.find.specs.Program.{Brought, Sent-or-told, Rises, Piece-sent, Piece-printed, Search-on, Searched}
+use Rattle.find.specs.Program.{Brought, Sent-or-told, Rises, Piece-sent, Piece-printed, Search-on, Search-stopped, Searched}
 use Rattle.find.proofs.Texts.{cut-last, cut-more}
 use Rattle.find.proofs.Moving.{is-done, is-told, moved-none, moved-join}
 
@@ -46,6 +46,18 @@ taken-printed s x c k from to t out more ok f p e =
             told = p .told;
           };
       goes = λ h. and-right (t .more) ok (sym e ∙ h);
+    }
+
+-- STOPPED where nothing more was sent
+stopped-here : (s : List ℕ) (x : Watch) (at from to : ℕ) → to ≡ from → Search-stopped s x at from to
+stopped-here s x at from to e =
+    record {
+      mid = at;
+      bytes = [];
+      out = [];
+      came = moved-none Came at;
+      sent = rw e (moved-none Sent from);
+      begins = λ rest. record { rest = text-output s (cut rest) x; is = refl };
     }
 
 -- A PIECE c: what is printed for it, and behind it for what follows
@@ -93,7 +105,14 @@ module _ (s : List ℕ) (x : Watch) (c : List ℕ) where
 
     pub piece-searched : Piece-printed s x c piece-size from r to → Searched s x at from r after to × Rises (r .more) at after
     piece-searched p = (
-      record { so-far = record { done = λ e. piece-on (p .all .done e); told = p .all .told }; goes = p .goes },
+      record {
+        so-far =
+            record {
+              done = λ e. piece-on (p .all .done e);
+              told = λ e. (p .all .told e .0, stopped-here s x at from to (p .all .told e .1));
+            };
+        goes = p .goes;
+      },
       λ e.
           let full : piece-size ≤ length c = more-full (sym (p .all .done (p .goes e) .more) ∙ e) in
           (omega (arith, came .counted .exact), came .counted .fits (omega arith)),
@@ -119,9 +138,10 @@ search-started s x at from =
       goes = λ e. e;
     }
 
-pub search-failed : (s : List ℕ) (x y : Watch) (at from after to : ℕ) → Told →
-    Searched s x at from (scan y false false) after to × Rises false at after
-search-failed s x y at from after to t = (record { so-far = is-told t; goes = λ e. e }, λ h. absurd (true≢false (sym h)))
+pub search-failed : (s : List ℕ) (x y : Watch) (at from after : ℕ) → Told →
+    Searched s x at from (scan y false false) after from × Rises false at after
+search-failed s x y at from after t =
+    (record { so-far = is-told t (stopped-here s x at from from refl); goes = λ e. e }, λ h. absurd (true≢false (sym h)))
 
 -- TURN AFTER TURN
 search-join : {s : List ℕ} {x y z : Watch} {t : Bool} {at mid after from via to : ℕ} →
@@ -137,14 +157,34 @@ search-join f g =
           (f .prints (g .bytes ++ rest) (λ e. absurd (true≢false e)));
     }
 
+stopped-join : {s : List ℕ} {x y : Watch} {at mid from via to : ℕ} →
+    Search-on s x at from y true mid via → Search-stopped s y mid via to → Search-stopped s x at from to
+stopped-join f g =
+    record {
+      mid = g .mid;
+      bytes = f .bytes ++ g .bytes;
+      out = f .out ++ g .out;
+      came = moved-join (f .came) (g .came);
+      sent = moved-join (f .sent) (g .sent);
+      begins = λ rest.
+          let b = g .begins rest in
+          record {
+            rest = b .rest;
+            is =
+                rw (append-assoc (f .bytes) (g .bytes) rest, append-assoc (f .out) (g .out), ← b .is)
+                (f .prints (g .bytes ++ rest) (λ e. absurd (true≢false e)));
+          };
+    }
+
 pub search-turned : {s : List ℕ} {x : Watch} {at mid after from via to : ℕ} {q r : Scan} →
     Searched s x at from q mid via → q .more ≡ true → Searched s (q .watch) mid via r after to → Searched s x at from r after to
-search-turned f m g =
+search-turned {s} {x} {at} {mid} {from = from} {via} {q = q} f m g =
+    let before : Search-on s x at from (q .watch) true mid via = rw m at (f .so-far .done (f .goes m)) in
     record {
       so-far =
           record {
-            done = λ e. search-join (rw m at (f .so-far .done (f .goes m))) (g .so-far .done e);
-            told = g .so-far .told;
+            done = λ e. search-join before (g .so-far .done e);
+            told = λ e. (g .so-far .told e .0, stopped-join before (g .so-far .told e .1));
           };
       goes = g .goes;
     }

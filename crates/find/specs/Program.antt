@@ -20,10 +20,10 @@ use Rattle.find.specs.Receipts.{Came, Ended, Sent, Told, Moved, May-foll
 use Rattle.find.specs.Printed.{last, piece-form, piece-watch}
 use Rattle.find.specs.Output.{cut, text-output, output}
 
--- either something is done, or standard error was told that the search is not complete
-pub record Done-or-told (ok : Bool) (Done : Type 0) : Type 0 where
+-- either something is done, or standard error was told that the search is not complete, and something else holds
+pub record Done-or-told (ok : Bool) (Done Else : Type 0) : Type 0 where
   pub done : ok ≡ true → Done
-  pub told : ok ≡ false → Told
+  pub told : ok ≡ false → Told × Else
 
 -- READING: k bytes came into a buffer, fewer than `full` only where the input ended
 pub record Brought (full at k after : ℕ) (buffer : List ℕ) : Type 0 where
@@ -35,9 +35,14 @@ abbrev pub Got-into : (full at : ℕ) → Got → (after : ℕ) → (buffer : Li
 Got-into n at (Bytes k) after b = Brought n at k after b
 Got-into n at Failed after b = Told
 
--- PRINTING: these bytes were sent, all of them
+-- PRINTING: these bytes were sent, all of them, or none is counted
 abbrev pub Sent-or-told : (at : ℕ) → (bytes : List ℕ) → (ok : Bool) → (after : ℕ) → Type 0
-Sent-or-told at bs r after = Done-or-told r (Moved Sent at after bs)
+Sent-or-told at bs r after = Done-or-told r (Moved Sent at after bs) (after ≡ at)
+
+-- a list begins with another
+pub record Start-of (xs ys : List ℕ) : Type 0 where
+  pub rest : List ℕ
+  pub is : ys ≡ xs ++ rest
 
 -- WHY A LOOP ENDS: a turn that is to be followed by another has read something, and bytes read are counted in 64 bits
 abbrev pub Rises : (more : Bool) → (at after : ℕ) → Type 0
@@ -53,7 +58,7 @@ pub record Line-on (line : Line) (kept : List ℕ) (at : ℕ) (next : Line) (kep
 
 -- what one byte of it, and the loop over its bytes, come to; more of it is to be read just as long as `read` goes on, and nothing failed
 pub record Line-read (line : Line) (kept : List ℕ) (at : ℕ) (r : Start) (kept-after : List ℕ) (after : ℕ) : Type 0 where
-  pub so-far : Done-or-told (r .ok) (Line-on line kept at (r .line) kept-after after × (r .more ≡ goes-on (r .line)))
+  pub so-far : Done-or-told (r .ok) (Line-on line kept at (r .line) kept-after after × (r .more ≡ goes-on (r .line))) (Unit {0})
   pub goes : r .more ≡ true → r .ok ≡ true
 
 -- A PIECE was taken from watch x on, and what is to be printed for it was sent
@@ -63,7 +68,8 @@ pub record Piece-sent (x : Watch) (piece : List ℕ) (refusal : ℕ) (f : Fed) (
   pub more : r .more ≡ eqb refusal 0 && not (last piece)
 
 pub record Piece-printed (sheet : List ℕ) (x : Watch) (piece : List ℕ) (k from : ℕ) (r : Scan) (to : ℕ) : Type 0 where
-  pub all : Done-or-told (r .ok) (Piece-sent x piece (feed-refusal sheet x (length piece) k) (feed (named sheet) piece k x) from r to)
+  pub all :
+      Done-or-told (r .ok) (Piece-sent x piece (feed-refusal sheet x (length piece) k) (feed (named sheet) piece k x) from r to) (to ≡ from)
   pub goes : r .more ≡ true → r .ok ≡ true
 
 -- THE SEARCH, from watch x to watch y: bytes came, and those were sent that are to be printed for them, whatever follows them; where no more is to be
@@ -77,9 +83,18 @@ pub record Search-on (sheet : List ℕ) (x : Watch) (at from : ℕ) (y : Watch) 
       (rest : List ℕ) → (more ≡ false → May-follow after rest) →
       text-output sheet (cut (bytes ++ rest)) x ≡ out ++ cond more (text-output sheet (cut rest) y) []
 
+-- a search that was stopped: bytes came, and those were sent that are to be printed first, whatever follows
+pub record Search-stopped (sheet : List ℕ) (x : Watch) (at from to : ℕ) : Type 0 where
+  pub mid : ℕ
+  pub bytes : List ℕ
+  pub out : List ℕ
+  pub came : Moved Came at mid bytes
+  pub sent : Moved Sent from to out
+  pub begins : (rest : List ℕ) → Start-of out (text-output sheet (cut (bytes ++ rest)) x)
+
 -- what one piece, and the loop over the pieces, come to
 pub record Searched (sheet : List ℕ) (x : Watch) (at from : ℕ) (r : Scan) (after to : ℕ) : Type 0 where
-  pub so-far : Done-or-told (r .ok) (Search-on sheet x at from (r .watch) (r .more) after to)
+  pub so-far : Done-or-told (r .ok) (Search-on sheet x at from (r .watch) (r .more) after to) (Search-stopped sheet x at from to)
   pub goes : r .more ≡ true → r .ok ≡ true
 
 -- A COMPLETE RUN: bytes came and bytes were sent, so many, and those sent are the output of the whole input, whatever it has behind those that came
@@ -90,6 +105,15 @@ pub record Complete (came sent : ℕ) : Type 0 where
   pub wrote : Moved Sent 0 sent out
   pub right : (rest : List ℕ) → May-follow came rest → out ≡ output (bytes ++ rest)
 
--- THE PROGRAM's promise: a complete run, or standard error was told that it is not
+-- A RUN THAT WAS STOPPED: those sent are what the output begins with, whatever the input has behind some bytes that came; so they have no last form
+pub record Stopped (sent : ℕ) : Type 0 where
+  pub came : ℕ
+  pub bytes : List ℕ
+  pub out : List ℕ
+  pub read : Moved Came 0 came bytes
+  pub wrote : Moved Sent 0 sent out
+  pub begins : (rest : List ℕ) → Start-of out (output (bytes ++ rest))
+
+-- THE PROGRAM's promise: a complete run, or it was stopped, and standard error was told
 abbrev pub Ran : (complete : Bool) → (came sent : ℕ) → Type 0
-Ran r came sent = Done-or-told r (Complete came sent)
+Ran r came sent = Done-or-told r (Complete came sent) (Stopped sent)

@@ -31,7 +31,7 @@ fn give_up(why: &[u8])
 
 // Moves a count of bytes on, unless it would wrap.
 fn count_on(count: &mut u64, n: usize) -> bool
-    ensures { λ r. ⌜ Done-or-told r (Counted-on (now (count .entry)) n (now (count .exit))) ⌝ }
+    ensures { λ r. ⌜ Done-or-told r (Counted-on (now (count .entry)) n (now (count .exit))) (now (count .exit) ≡ now (count .entry)) ⌝ }
 {
     if u64::MAX - *count < n as u64 {
         give_up(b"more bytes than can be counted");

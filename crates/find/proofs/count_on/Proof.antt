@@ -15,7 +15,7 @@ give-up-requires : tie.Need-give-up-requires
 give-up-requires c κs = search needs
 
 returns : tie.Need-returns
-returns c = is-told (c .give-up .ensures)
+returns c = is-told (c .give-up .ensures) refl
 
 add-count : tie.Need-add-count
 add-count c = search needs

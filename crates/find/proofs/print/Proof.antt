@@ -2,7 +2,7 @@
 use Rattle.find.proofs.Moving.{is-told}
 use Rattle.find.specs.Receipts.{Sent}
 use lib.Seq.{length-take-le}
-use mathlib.Core.Path.{sym}
+use mathlib.Core.Path.{refl, sym}
 use borrow.Author.Needs.{needs}
 use Rattle.find.proofs.print.Statement.{statement}
 use Rattle.find.proofs.print.Tie as tie
@@ -33,7 +33,7 @@ give-up-requires : tie.Need-give-up-requires
 give-up-requires c κs = search needs
 
 returns-2 : tie.Need-returns-2
-returns-2 c = is-told (c .give-up .ensures)
+returns-2 c = is-told (c .give-up .ensures) refl
 
 pub print-spec : {M : Type 1} → statement M
 print-spec =

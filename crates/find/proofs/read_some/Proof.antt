@@ -41,7 +41,7 @@ same-length-3 : tie.Need-same-length-3
 same-length-3 c = search needs
 
 returns-3 : tie.Need-returns-3
-returns-3 c = c .before .count-on .ensures .told (c .if2 .left)
+returns-3 c = c .before .count-on .ensures .told (c .if2 .left) .0
 
 pub read-some-spec : {M : Type 1} → statement M
 read-some-spec =

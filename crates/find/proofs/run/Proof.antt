@@ -1,7 +1,8 @@
 -- `run` meets its contract. By whether the first line could be read, and whether it is refused. Assumes nothing.
+use mathlib.Core.Path.{refl}
 use borrow.Author.Tests.{not-true, not-false}
 use Rattle.find.proofs.Moving.{is-told}
-use Rattle.find.proofs.Running.{ran-refused, ran-searched}
+use Rattle.find.proofs.Running.{ran-not, ran-refused, ran-searched}
 use borrow.Author.Needs.{needs}
 use Rattle.find.proofs.run.Statement.{statement}
 use Rattle.find.proofs.run.Tie as tie
@@ -10,7 +11,9 @@ read-line-requires : tie.Need-read-line-requires
 read-line-requires c κs = search needs
 
 returns : tie.Need-returns
-returns c = is-told (c .before .before .read-line .ensures .1 .so-far .told (not-true _ (c .if1 .taken)))
+returns c =
+    let l = c .before .before in
+    is-told (l .read-line .ensures .1 .so-far .told (not-true _ (c .if1 .taken)) .0) (ran-not (l .before .before .before .pre .1) refl)
 
 slice-aggregate-prepare-line : tie.Need-slice-aggregate-prepare-line
 slice-aggregate-prepare-line c = search needs

@@ -29,7 +29,7 @@ returns c =
     piece-read _ _ _ _ _ _ r (search needs) (search needs) (search needs) (c .print-piece .ensures)
 
 returns-2 : tie.Need-returns-2
-returns-2 c = search-failed _ _ _ _ _ _ _ (rw (c .enum-told .given .1) at (c .before .before .read-full .ensures))
+returns-2 c = search-failed _ _ _ _ _ _ (rw (c .enum-told .given .1) at (c .before .before .read-full .ensures))
 
 pub search-piece-spec : {M : Type 1} → statement M
 search-piece-spec =
