@@ -1,6 +1,6 @@
 // find: reads `(code X)`, a line feed and a text from standard input, and prints each place of X in the text, then what was counted.
-// `run` is the program, and its contract says all that it does with the bytes that came; only which bytes the system moved is left to reading, in
-// `read_some` and `print`. `came` and `sent` count the bytes read and written: no other function changes them.
+// `run` is the program, and its contract says what it does with the bytes that came. Only what the system did is left to reading, in `give_up`,
+// `read_some` and `print`. `came` and `sent` count the bytes read and written; `count_on` alone changes them.
 ghost use mathlib.Core.Path.{_≡_};
 ghost use mathlib.Core.Bool.{true, false};
 ghost use Prim.Native.Nat.{_+_, _*_, _≤_};
