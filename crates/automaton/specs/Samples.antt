@@ -53,6 +53,7 @@ unfoldable pub samples : List Sample
 samples =
     targeted abaab ([] ∷ (1 ∷ []) ∷ [] ∷ (2 ∷ []) ∷ (1 ∷ []) ∷ (3 ∷ []) ∷ [])
     ∷ stepping (A ∷ B ∷ []) (A ∷ A ∷ A ∷ []) (1 ∷ 1 ∷ 1 ∷ [])
+    ∷ stepping (A ∷ B ∷ []) (A ∷ B ∷ Z ∷ []) (1 ∷ 2 ∷ 1 ∷ [])
     ∷ stepping (A ∷ B ∷ A ∷ C ∷ []) (A ∷ B ∷ A ∷ Z ∷ []) (1 ∷ 2 ∷ 1 ∷ 3 ∷ [])
     ∷ []
 

@@ -11,8 +11,8 @@ use Rattle.forms.specs.declared.Line.the-variants.{Opening, Code, Closed, Done,
 use Rattle.forms.specs.Line.{line-after, kept-after, goes-on, Read, read}
 use Rattle.find.specs.declared.Start.{Start}
 use Rattle.find.specs.Receipts.{Came, Ended, Told, Moved, May-follow}
-use Rattle.find.specs.Program.{Done-or-told, Line-on, Line-read, Rises, Brought}
-use Rattle.find.proofs.Moving.{is-done, is-told, moved-none, moved-join}
+use Rattle.find.specs.Program.{Done-or-told, Some-came, Line-on, Line-read, Rises, Brought}
+use Rattle.find.proofs.Moving.{is-done, is-told, moved-none, moved-join, came-join}
 
 -- READING: the end of the input, one byte more, or a line that is read
 read-end : (l : Line) (a : List ℕ) → goes-on l ≡ true → read l a [] ≡ read Wrong a []
@@ -73,8 +73,8 @@ module _ (l : Line) (a : List ℕ) (g : goes-on l ≡ true) {at k after : ℕ} {
         λ _. (omega (arith, came .counted .exact), came .counted .fits (omega arith)),
       )
 
-pub line-failed : (l : Line) (a c : List ℕ) (at after : ℕ) → Told → Line-read l a at (start Wrong false false) c after × Rises false at after
-line-failed l a c at after t = (record { so-far = is-told t tt; goes = λ h. h }, λ h. absurd (true≢false (sym h)))
+pub line-failed : (l : Line) (a c : List ℕ) (at after : ℕ) → Told × Some-came at after → Line-read l a at (start Wrong false false) c after × Rises false at after
+line-failed l a c at after t = (record { so-far = is-told (t .0) (t .1); goes = λ h. h }, λ h. absurd (true≢false (sym h)))
 
 -- TURN AFTER TURN
 line-join : {l k n : Line} {a b c : List ℕ} {at mid after : ℕ} → goes-on k ≡ true →
@@ -98,7 +98,7 @@ line-turned f m h =
       so-far =
           record {
             done = λ e. (line-join (line-goes f m) (f .so-far .done (f .goes m) .0) (h .so-far .done e .0), h .so-far .done e .1);
-            told = h .so-far .told;
+            told = λ e. (h .so-far .told e .0, came-join (f .so-far .done (f .goes m) .0 .came) (h .so-far .told e .1));
           };
       goes = h .goes;
     }

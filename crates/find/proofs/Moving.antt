@@ -9,7 +9,7 @@ use lib.Seq.{getD-append-add, length-take-le, take-append-add, take-append-le}
 use Rattle.words.specs.Words.{byte}
 use Rattle.words.proofs.Tests.{by-le}
 use Rattle.find.specs.Receipts.{Came, Told, Counted-on, Moved}
-use Rattle.find.specs.Program.{Done-or-told, Rises, Brought}
+use Rattle.find.specs.Program.{Done-or-told, Rises, Some-came, Brought}
 
 -- something is done, or it is told that it is not
 pub is-done : {D E : Type 0} → D → Done-or-told true D E
@@ -51,6 +51,12 @@ moved-join {P} {at} {mid} {after} {xs} {ys} f g =
       counted = rw length-append (counted-join (f .counted) (g .counted));
       each = join-each P at xs ys (f .each) (λ i h. rw (f .counted .exact) at (g .each i h));
     }
+
+pub came-none : (at after : ℕ) → after ≡ at → Some-came at after
+came-none at after e = record { bytes = []; came = rw e (moved-none Came at) }
+
+pub came-join : {at mid after : ℕ} {xs : List ℕ} → Moved Came at mid xs → Some-came mid after → Some-came at after
+came-join {xs = xs} f g = record { bytes = xs ++ g .bytes; came = moved-join f (g .came) }
 
 -- ONE MORE READ behind the first n bytes of a buffer xs, into a part ys that reaches to its end
 behind : (n k : ℕ) (xs ys zs : List ℕ) → n ≤ length xs → k ≤ length ys → take (n + k) (take n xs ++ (ys ++ zs)) ≡ take n xs ++ take k ys

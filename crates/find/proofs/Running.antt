@@ -14,11 +14,11 @@ use Rattle.forms.specs.declared.Line.the-variants.{Opening, Wrong}
 use Rattle.forms.specs.Line.{goes-on}
 use Rattle.forms.specs.Text.{refused-form}
 use Rattle.find.specs.declared.Start.{Start}
-use Rattle.find.specs.declared.Scan.{Scan}
+use Rattle.find.specs.declared.Progress.{Progress}
 use Rattle.find.specs.Printed.{line-refusal, line-sheet}
 use Rattle.find.specs.Output.{cut, text-output, output-after, output}
-use Rattle.find.specs.Receipts.{Came, Sent, Moved, May-follow}
-use Rattle.find.specs.Program.{Sent-or-told, Line-on, Line-read, Search-on, Search-stopped, Searched, Complete, Stopped, Ran}
+use Rattle.find.specs.Receipts.{Sent, Moved, May-follow}
+use Rattle.find.specs.Program.{Some-came, Sent-or-told, Line-on, Line-read, Search-on, Search-stopped, Searched, Complete, Stopped, Ran}
 use Rattle.find.proofs.Moving.{moved-none, moved-join}
 use Rattle.find.proofs.FirstLine.{read-over}
 
@@ -63,10 +63,10 @@ module _
         right = λ rest p. rw append-assoc (sym (search-then none (g .bytes ++ rest) ∙ g .prints rest (λ _. p) ∙ append-nil (g .out)));
       }
 
-  run-stopped : {sent : ℕ} → refusal ≡ 0 → Search-stopped (line-sheet line kept (replicate 767 0)) opened mid 0 sent → Stopped sent
+  run-stopped : {came sent : ℕ} → refusal ≡ 0 →
+      Search-stopped (line-sheet line kept (replicate 767 0)) opened mid 0 came sent → Stopped came sent
   run-stopped none g =
       record {
-        came = g .mid;
         bytes = f .bytes ++ g .bytes;
         out = g .out;
         read = moved-join (f .came) (g .came);
@@ -77,15 +77,14 @@ module _
       }
 
 -- stopped where nothing was sent
-pub ran-not : {from sent : ℕ} → from ≡ 0 → sent ≡ from → Stopped sent
-ran-not z e =
+pub ran-not : {at came from sent : ℕ} → Some-came at came → at ≡ 0 → from ≡ 0 → sent ≡ from → Stopped came sent
+ran-not c a z e =
     record {
-      came = 0;
-      bytes = [];
+      bytes = c .bytes;
       out = [];
-      read = moved-none Came 0;
+      read = rw a at (c .came);
       wrote = rw (e, z) (moved-none Sent 0);
-      begins = λ rest. record { rest = output rest; is = refl };
+      begins = λ rest. record { rest = output (c .bytes ++ rest); is = refl };
     }
 
 -- from where the functions leave it: the first line read, with counts that began at 0
@@ -103,10 +102,10 @@ module _
   ran-refused e h p =
       record {
         done = λ d. run-refused line-is line-over (rw e at h) (rw (zero-sent, e) at (p .done d));
-        told = λ d. (p .told d .0, ran-not zero-sent (p .told d .1));
+        told = λ d. (p .told d .0, ran-not (record { bytes = line-is .bytes; came = line-is .came }) refl zero-sent (p .told d .1));
       }
 
-  pub ran-searched : {s : List ℕ} {n came sent : ℕ} {r : Scan} → n ≡ line-refusal (q .line) kept 767 → n ≡ 0 →
+  pub ran-searched : {s : List ℕ} {n came sent : ℕ} {r : Progress} → n ≡ line-refusal (q .line) kept 767 → n ≡ 0 →
       s ≡ line-sheet (q .line) kept (replicate 767 0) → r .more ≡ false → Searched s opened mid from r came sent → Ran (r .ok) came sent
   ran-searched e none i over g =
       record {

@@ -14,11 +14,11 @@ use Rattle.finder.specs.declared.Watch.{Watch}
 use Rattle.finder.specs.Feed.{Fed, feed}
 use Rattle.finder.specs.Entry.{feed-refusal}
 use Rattle.find.specs.declared.Turn.{Turn}
-use Rattle.find.specs.declared.Scan.{Scan}
+use Rattle.find.specs.declared.Progress.{Progress}
 use Rattle.find.specs.Printed.{piece-size, last, piece-form, piece-watch, Piece-taken}
 use Rattle.find.specs.Output.{cut, text-output}
 use Rattle.find.specs.Receipts.{Came, Ended, Sent, Told, Moved, May-follow}
-use Rattle.find.specs.Program.{Brought, Sent-or-told, Rises, Piece-sent, Piece-printed, Search-on, Search-stopped, Searched}
+use Rattle.find.specs.Program.{Some-came, Brought, Sent-or-told, Rises, Piece-sent, Piece-printed, Search-on, Search-stopped, Searched}
 use Rattle.find.proofs.Texts.{cut-last, cut-more}
 use Rattle.find.proofs.Moving.{is-done, is-told, moved-none, moved-join}
 
@@ -48,16 +48,15 @@ taken-printed s x c k from to t out more ok f p e =
       goes = λ h. and-right (t .more) ok (sym e ∙ h);
     }
 
--- STOPPED where nothing more was sent
-stopped-here : (s : List ℕ) (x : Watch) (at from to : ℕ) → to ≡ from → Search-stopped s x at from to
-stopped-here s x at from to e =
+-- STOPPED where some bytes came and nothing was sent
+stopped-here : (s : List ℕ) (x : Watch) {at from after to : ℕ} → Some-came at after → to ≡ from → Search-stopped s x at from after to
+stopped-here s x {from = from} c e =
     record {
-      mid = at;
-      bytes = [];
+      bytes = c .bytes;
       out = [];
-      came = moved-none Came at;
+      came = c .came;
       sent = rw e (moved-none Sent from);
-      begins = λ rest. record { rest = text-output s (cut rest) x; is = refl };
+      begins = λ rest. record { rest = text-output s (cut (c .bytes ++ rest)) x; is = refl };
     }
 
 -- A PIECE c: what is printed for it, and behind it for what follows
@@ -89,7 +88,7 @@ module _ (s : List ℕ) (x : Watch) (c : List ℕ) where
   -- it came, fewer bytes than a full one only where the input ended, and what is to be printed for it was sent
   module _
       {at after : ℕ} (came : Moved Came at after c) (h : length c ≤ piece-size) (ends : length c < piece-size → Ended after)
-      {from to : ℕ} {r : Scan} where
+      {from to : ℕ} {r : Progress} where
     piece-on : Piece-sent x c n f from r to → Search-on s x at from (r .watch) (r .more) after to
     unfolding May-follow
     piece-on p =
@@ -109,7 +108,7 @@ module _ (s : List ℕ) (x : Watch) (c : List ℕ) where
         so-far =
             record {
               done = λ e. piece-on (p .all .done e);
-              told = λ e. (p .all .told e .0, stopped-here s x at from to (p .all .told e .1));
+              told = λ e. (p .all .told e .0, stopped-here s x (record { bytes = c; came = came }) (p .all .told e .1));
             };
         goes = p .goes;
       },
@@ -119,7 +118,7 @@ module _ (s : List ℕ) (x : Watch) (c : List ℕ) where
     )
 
 -- the piece that was read into a buffer, with a place for each of its bytes
-pub piece-read : (s : List ℕ) (x : Watch) (b : List ℕ) (m n k : ℕ) {at after from to : ℕ} {r : Scan} → Brought m at n after b →
+pub piece-read : (s : List ℕ) (x : Watch) (b : List ℕ) (m n k : ℕ) {at after from to : ℕ} {r : Progress} → Brought m at n after b →
     m ≡ piece-size → length b ≡ piece-size → k ≡ piece-size → Piece-printed s x (take n b) k from r to →
     Searched s x at from r after to × Rises (r .more) at after
 piece-read s x b m n k g full size places p =
@@ -127,10 +126,10 @@ piece-read s x b m n k g full size places p =
     piece-searched s x (take n b) (g .came) (omega (arith, g .within)) (λ h. g .ends (omega arith)) (rw places at p)
 
 -- WHERE THE SEARCH HAS COME TO
-abbrev scan : Watch → (more ok : Bool) → Scan
-scan x t k = record { watch = x; more = t; ok = k }
+abbrev progress : Watch → (more ok : Bool) → Progress
+progress x t k = record { watch = x; more = t; ok = k }
 
-pub search-started : (s : List ℕ) (x : Watch) (at from : ℕ) → Searched s x at from (scan x true true) at from
+pub search-started : (s : List ℕ) (x : Watch) (at from : ℕ) → Searched s x at from (progress x true true) at from
 search-started s x at from =
     record {
       so-far =
@@ -138,10 +137,10 @@ search-started s x at from =
       goes = λ e. e;
     }
 
-pub search-failed : (s : List ℕ) (x y : Watch) (at from after : ℕ) → Told →
-    Searched s x at from (scan y false false) after from × Rises false at after
+pub search-failed : (s : List ℕ) (x y : Watch) (at from after : ℕ) → Told × Some-came at after →
+    Searched s x at from (progress y false false) after from × Rises false at after
 search-failed s x y at from after t =
-    (record { so-far = is-told t (stopped-here s x at from from refl); goes = λ e. e }, λ h. absurd (true≢false (sym h)))
+    (record { so-far = is-told (t .0) (stopped-here s x (t .1) refl); goes = λ e. e }, λ h. absurd (true≢false (sym h)))
 
 -- TURN AFTER TURN
 search-join : {s : List ℕ} {x y z : Watch} {t : Bool} {at mid after from via to : ℕ} →
@@ -157,11 +156,10 @@ search-join f g =
           (f .prints (g .bytes ++ rest) (λ e. absurd (true≢false e)));
     }
 
-stopped-join : {s : List ℕ} {x y : Watch} {at mid from via to : ℕ} →
-    Search-on s x at from y true mid via → Search-stopped s y mid via to → Search-stopped s x at from to
+stopped-join : {s : List ℕ} {x y : Watch} {at mid after from via to : ℕ} →
+    Search-on s x at from y true mid via → Search-stopped s y mid via after to → Search-stopped s x at from after to
 stopped-join f g =
     record {
-      mid = g .mid;
       bytes = f .bytes ++ g .bytes;
       out = f .out ++ g .out;
       came = moved-join (f .came) (g .came);
@@ -176,7 +174,7 @@ stopped-join f g =
           };
     }
 
-pub search-turned : {s : List ℕ} {x : Watch} {at mid after from via to : ℕ} {q r : Scan} →
+pub search-turned : {s : List ℕ} {x : Watch} {at mid after from via to : ℕ} {q r : Progress} →
     Searched s x at from q mid via → q .more ≡ true → Searched s (q .watch) mid via r after to → Searched s x at from r after to
 search-turned {s} {x} {at} {mid} {from = from} {via} {q = q} f m g =
     let before : Search-on s x at from (q .watch) true mid via = rw m at (f .so-far .done (f .goes m)) in

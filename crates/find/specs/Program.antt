@@ -15,7 +15,7 @@ use Rattle.forms.specs.Line.{goes-on, read}
 use Rattle.find.specs.declared.Got.{Got}
 use Rattle.find.specs.declared.Got.the-variants.{Bytes, Failed}
 use Rattle.find.specs.declared.Start.{Start}
-use Rattle.find.specs.declared.Scan.{Scan}
+use Rattle.find.specs.declared.Progress.{Progress}
 use Rattle.find.specs.Receipts.{Came, Ended, Sent, Told, Moved, May-follow}
 use Rattle.find.specs.Printed.{last, piece-form, piece-watch}
 use Rattle.find.specs.Output.{cut, text-output, output}
@@ -31,9 +31,14 @@ pub record Brought (full at k after : ℕ) (buffer : List ℕ) : Type 0 where
   pub came : Moved Came at after (take k buffer)
   pub ends : k < full → Ended after
 
+-- or a read failed, and what is counted came before it
+pub record Some-came (at after : ℕ) : Type 0 where
+  pub bytes : List ℕ
+  pub came : Moved Came at after bytes
+
 abbrev pub Got-into : (full at : ℕ) → Got → (after : ℕ) → (buffer : List ℕ) → Type 0
 Got-into n at (Bytes k) after b = Brought n at k after b
-Got-into n at Failed after b = Told
+Got-into n at Failed after b = Told × Some-came at after
 
 -- PRINTING: these bytes were sent, all of them, or none is counted
 abbrev pub Sent-or-told : (at : ℕ) → (bytes : List ℕ) → (ok : Bool) → (after : ℕ) → Type 0
@@ -48,8 +53,8 @@ pub record Start-of (xs ys : List ℕ) : Type 0 where
 abbrev pub Rises : (more : Bool) → (at after : ℕ) → Type 0
 Rises more at after = more ≡ true → (at < after) × (after < 2 ^ 64)
 
--- THE FIRST LINE, from `line` to `next`: bytes came, and behind them `read` goes on just so, whatever follows them; where the input's end made the line
--- wrong, nothing follows
+-- THE FIRST LINE, from `line` to `next`: bytes came, and behind them `read` goes on just so. This holds whatever follows them; only a wrong line may rest
+-- on the input's having ended there
 pub record Line-on (line : Line) (kept : List ℕ) (at : ℕ) (next : Line) (kept-after : List ℕ) (after : ℕ) : Type 0 where
   pub bytes : List ℕ
   pub came : Moved Came at after bytes
@@ -58,22 +63,22 @@ pub record Line-on (line : Line) (kept : List ℕ) (at : ℕ) (next : Line) (kep
 
 -- what one byte of it, and the loop over its bytes, come to; more of it is to be read just as long as `read` goes on, and nothing failed
 pub record Line-read (line : Line) (kept : List ℕ) (at : ℕ) (r : Start) (kept-after : List ℕ) (after : ℕ) : Type 0 where
-  pub so-far : Done-or-told (r .ok) (Line-on line kept at (r .line) kept-after after × (r .more ≡ goes-on (r .line))) (Unit {0})
+  pub so-far : Done-or-told (r .ok) (Line-on line kept at (r .line) kept-after after × (r .more ≡ goes-on (r .line))) (Some-came at after)
   pub goes : r .more ≡ true → r .ok ≡ true
 
 -- A PIECE was taken from watch x on, and what is to be printed for it was sent
-pub record Piece-sent (x : Watch) (piece : List ℕ) (refusal : ℕ) (f : Fed) (from : ℕ) (r : Scan) (to : ℕ) : Type 0 where
+pub record Piece-sent (x : Watch) (piece : List ℕ) (refusal : ℕ) (f : Fed) (from : ℕ) (r : Progress) (to : ℕ) : Type 0 where
   pub sent : Moved Sent from to (piece-form refusal (last piece) f)
   pub watch : r .watch ≡ piece-watch refusal f x
   pub more : r .more ≡ eqb refusal 0 && not (last piece)
 
-pub record Piece-printed (sheet : List ℕ) (x : Watch) (piece : List ℕ) (k from : ℕ) (r : Scan) (to : ℕ) : Type 0 where
+pub record Piece-printed (sheet : List ℕ) (x : Watch) (piece : List ℕ) (k from : ℕ) (r : Progress) (to : ℕ) : Type 0 where
   pub all :
       Done-or-told (r .ok) (Piece-sent x piece (feed-refusal sheet x (length piece) k) (feed (named sheet) piece k x) from r to) (to ≡ from)
   pub goes : r .more ≡ true → r .ok ≡ true
 
--- THE SEARCH, from watch x to watch y: bytes came, and those were sent that are to be printed for them, whatever follows them; where no more is to be
--- read, that is nothing if the input has ended
+-- THE SEARCH, from watch x to watch y: bytes came, and those were sent that are to be printed for them. This holds whatever follows them; only where no
+-- more is to be read may it rest on the input's having ended there
 pub record Search-on (sheet : List ℕ) (x : Watch) (at from : ℕ) (y : Watch) (more : Bool) (after to : ℕ) : Type 0 where
   pub bytes : List ℕ
   pub out : List ℕ
@@ -83,18 +88,17 @@ pub record Search-on (sheet : List ℕ) (x : Watch) (at from : ℕ) (y : Watch) 
       (rest : List ℕ) → (more ≡ false → May-follow after rest) →
       text-output sheet (cut (bytes ++ rest)) x ≡ out ++ cond more (text-output sheet (cut rest) y) []
 
--- a search that was stopped: bytes came, and those were sent that are to be printed first, whatever follows
-pub record Search-stopped (sheet : List ℕ) (x : Watch) (at from to : ℕ) : Type 0 where
-  pub mid : ℕ
+-- a search that was stopped: bytes came, and those were sent that are to be printed first, whatever follows them
+pub record Search-stopped (sheet : List ℕ) (x : Watch) (at from after to : ℕ) : Type 0 where
   pub bytes : List ℕ
   pub out : List ℕ
-  pub came : Moved Came at mid bytes
+  pub came : Moved Came at after bytes
   pub sent : Moved Sent from to out
   pub begins : (rest : List ℕ) → Start-of out (text-output sheet (cut (bytes ++ rest)) x)
 
 -- what one piece, and the loop over the pieces, come to
-pub record Searched (sheet : List ℕ) (x : Watch) (at from : ℕ) (r : Scan) (after to : ℕ) : Type 0 where
-  pub so-far : Done-or-told (r .ok) (Search-on sheet x at from (r .watch) (r .more) after to) (Search-stopped sheet x at from to)
+pub record Searched (sheet : List ℕ) (x : Watch) (at from : ℕ) (r : Progress) (after to : ℕ) : Type 0 where
+  pub so-far : Done-or-told (r .ok) (Search-on sheet x at from (r .watch) (r .more) after to) (Search-stopped sheet x at from after to)
   pub goes : r .more ≡ true → r .ok ≡ true
 
 -- A COMPLETE RUN: bytes came and bytes were sent, so many, and those sent are the output of the whole input, whatever it has behind those that came
@@ -105,9 +109,8 @@ pub record Complete (came sent : ℕ) : Type 0 where
   pub wrote : Moved Sent 0 sent out
   pub right : (rest : List ℕ) → May-follow came rest → out ≡ output (bytes ++ rest)
 
--- A RUN THAT WAS STOPPED: those sent are what the output begins with, whatever the input has behind some bytes that came; so they have no last form
-pub record Stopped (sent : ℕ) : Type 0 where
-  pub came : ℕ
+-- A RUN THAT WAS STOPPED: those sent are what the output begins with, whatever the input has behind those that came; so they have no end form
+pub record Stopped (came sent : ℕ) : Type 0 where
   pub bytes : List ℕ
   pub out : List ℕ
   pub read : Moved Came 0 came bytes
@@ -116,4 +119,4 @@ pub record Stopped (sent : ℕ) : Type 0 where
 
 -- THE PROGRAM's promise: a complete run, or it was stopped, and standard error was told
 abbrev pub Ran : (complete : Bool) → (came sent : ℕ) → Type 0
-Ran r came sent = Done-or-told r (Complete came sent) (Stopped sent)
+Ran r came sent = Done-or-told r (Complete came sent) (Stopped came sent)

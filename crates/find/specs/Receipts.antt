@@ -1,5 +1,6 @@
--- RECEIPTS for the bytes that the system moves. No contract can say which bytes a call reads or writes, so these are shut names that only one small
--- function's proof opens each: `read_some` Came and Ended, `print` Sent, `give_up` Told. Whoever has one has it from a call of that function.
+-- RECEIPTS for what the system did. No contract can say which bytes a call reads or writes, so these are shut names: anyone can state one, and only
+-- its maker below makes it. Each maker is for one small function's proof, which tests/receipts holds to: make-came and make-ended for `read_some`,
+-- make-sent for `print`, make-told for `give_up`.
 use mathlib.Core.Path.{_≡_}
 use mathlib.Core.List.{List, []}
 use Prim.Native.Nat.{ℕ, _+_, _^_, _≤_, _<_}
@@ -7,20 +8,36 @@ use lib.ListN.{length}
 use Rattle.words.specs.Words.{byte}
 
 -- byte i of the input is c: a read brought it when i bytes had come before it
-unfoldable pub Came : (i c : ℕ) → Type 0
+pub Came : (i c : ℕ) → Type 0
 Came i c = Unit {0}
 
--- the input has n bytes: a read brought none when so many had come
-unfoldable pub Ended : (n : ℕ) → Type 0
+pub make-came : (i c : ℕ) → Came i c
+unfolding Came
+make-came i c = tt
+
+-- the input has n bytes: a read that had room brought none when so many had come
+pub Ended : (n : ℕ) → Type 0
 Ended n = Unit {0}
 
+pub make-ended : (n : ℕ) → Ended n
+unfolding Ended
+make-ended n = tt
+
 -- byte i of the output is c: it was written when i bytes had been written before it
-unfoldable pub Sent : (i c : ℕ) → Type 0
+pub Sent : (i c : ℕ) → Type 0
 Sent i c = Unit {0}
 
--- standard error was told that the search is not complete
-unfoldable pub Told : Type 0
+pub make-sent : (i c : ℕ) → Sent i c
+unfolding Sent
+make-sent i c = tt
+
+-- what standard error is told, that the search is not complete, was written to it
+pub Told : Type 0
 Told = Unit {0}
+
+pub make-told : Told
+unfolding Told
+make-told = tt
 
 -- n more were counted, from `at` to `after`, in 64 bits
 pub record Counted-on (at n after : ℕ) : Type 0 where

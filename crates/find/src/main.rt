@@ -177,7 +177,7 @@ fn prepare_line(line: Line, kept: &[u8; 256], sheet: &mut [u8]) -> u32
     }
 }
 
-// Where a search has come to: the watch, the bytes to print, and whether more of the text is to be read.
+// What a piece leads to: the watch, the bytes to print, and whether more of the text is to be read.
 struct Turn {
     watch: Watch,
     printed: usize,
@@ -227,8 +227,8 @@ fn take_piece(sheet: &[u8], watch: Watch, piece: &[u8], places: &mut [u32], out:
     }
 }
 
-// Where a search has come to: the watch, whether more of the text is to be read, and whether nothing failed.
-struct Scan {
+// How far a search has come: the watch, whether more of the text is to be read, and whether nothing failed.
+struct Progress {
     watch: Watch,
     more: bool,
     ok: bool,
@@ -243,7 +243,7 @@ fn print_piece(
     places: &mut [u32],
     out: &mut [u8],
     sent: &mut u64,
-) -> Scan
+) -> Progress
     requires { ⌜ (n ≤ length (now buffer)) × (room (length (now places)) ≤ length (now out)) ⌝ }
     ensures { λ r. ⌜ Piece-printed (now (sheet .entry)) watch (take n (now (buffer .entry))) (length (now (places .entry))) (now (sent .entry)) r (now (sent .exit)) ⌝ }
 {
@@ -251,7 +251,7 @@ fn print_piece(
     let next = turn.watch;
     let more = turn.more;
     let ok = print(sent, out, turn.printed);
-    Scan {
+    Progress {
         watch: next,
         more: more && ok,
         ok: ok,
@@ -264,16 +264,16 @@ fn search_piece(
     watch: Watch,
     buffer: &mut [u8; 4096],
     places: &mut [u32; 4096],
-    out: &mut [u8; 65616],
+    out: &mut [u8; 65611],
     came: &mut u64,
     sent: &mut u64,
-) -> Scan
+) -> Progress
     ensures { λ r. ⌜ Searched (now (sheet .entry)) watch (now (came .entry)) (now (sent .entry)) r (now (came .exit)) (now (sent .exit)) × Rises (r .more) (now (came .entry)) (now (came .exit)) ⌝ }
 {
     let got = read_full(came, buffer);
     match got {
         Got::Bytes(n) => print_piece(sheet, watch, buffer, n, places, out, sent),
-        Got::Failed => Scan {
+        Got::Failed => Progress {
             watch: watch,
             more: false,
             ok: false,
@@ -282,13 +282,13 @@ fn search_piece(
 }
 
 // Searches the text, as long as more of it is to come. Each turn counts bytes that came: so it ends.
-fn search(sheet: &[u8], came: &mut u64, sent: &mut u64) -> Scan
+fn search(sheet: &[u8], came: &mut u64, sent: &mut u64) -> Progress
     ensures { λ r. ⌜ (r .more ≡ false) × Searched (now (sheet .entry)) opened (now (came .entry)) (now (sent .entry)) r (now (came .exit)) (now (sent .exit)) ⌝ }
 {
     let mut buffer = [0u8; 4096];
     let mut places = [0u32; 4096];
-    let mut out = [0u8; 65616];
-    let mut scan = Scan {
+    let mut out = [0u8; 65611];
+    let mut scan = Progress {
         watch: Watch::open(),
         more: true,
         ok: true,
@@ -321,9 +321,9 @@ fn run(came: &mut u64, sent: &mut u64) -> bool
     }
     let line = start.line;
     let mut sheet = [0u8; 767];
-    let refusal = prepare_line(line, &kept, &mut sheet);
-    if refusal != 0 {
-        return print_refusal(sent, refusal);
+    let number = prepare_line(line, &kept, &mut sheet);
+    if number != 0 {
+        return print_refusal(sent, number);
     }
     let scan = search(&sheet, came, sent);
     scan.ok

@@ -1,5 +1,5 @@
 -- `give_up` meets its contract: it makes the receipt. Assumes nothing.
-use Rattle.find.specs.Receipts.{Told}
+use Rattle.find.specs.Receipts.{make-told}
 use borrow.Author.Needs.{needs}
 use Rattle.find.proofs.give_up.Statement.{statement}
 use Rattle.find.proofs.give_up.Tie as tie
@@ -20,8 +20,7 @@ write-all-requires-3 : tie.Need-write-all-requires-3
 write-all-requires-3 c κs = search needs
 
 returns : tie.Need-returns
-unfolding Told
-returns c = tt
+returns c = make-told
 
 pub give-up-spec : {M : Type 1} → statement M
 give-up-spec =

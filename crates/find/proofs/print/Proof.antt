@@ -1,6 +1,6 @@
 -- `print` meets its contract: it makes the receipts. Assumes nothing.
 use Rattle.find.proofs.Moving.{is-told}
-use Rattle.find.specs.Receipts.{Sent}
+use Rattle.find.specs.Receipts.{make-sent}
 use lib.Seq.{length-take-le}
 use mathlib.Core.Path.{refl, sym}
 use borrow.Author.Needs.{needs}
@@ -17,12 +17,11 @@ count-on-requires : tie.Need-count-on-requires
 count-on-requires c κs = search needs
 
 returns : tie.Need-returns
-unfolding Sent
 returns c =
     let s = c .before .before .before .before .before .before in
     let size = length-take-le (s .args .n) (s .args .buffer .now) (s .pre) in
     record {
-      done = λ e. record { counted = rw size (c .count-on .ensures .done e); each = λ i h. tt };
+      done = λ e. record { counted = rw size (c .count-on .ensures .done e); each = λ i h. make-sent _ _ };
       told = c .count-on .ensures .told;
     }
 

@@ -5,7 +5,7 @@ use native.Mathlib.Omega.{arith}
 use borrow.Author.Needs.{needs}
 use lib.ListN.{length, take}
 use Rattle.find.specs.Receipts.{Came, Moved}
-use Rattle.find.proofs.Moving.{moved-none, read-on, read-none}
+use Rattle.find.proofs.Moving.{moved-none, came-join, read-on, read-none}
 use Rattle.find.proofs.read_full.Statement.{statement}
 use Rattle.find.proofs.read_full.Tie as tie
 use Rattle.find.proofs.read_full.Reads as reads
@@ -66,7 +66,10 @@ same-length-2 : tie.Need-same-length-2 Inv-loop μ-loop
 same-length-2 c = search needs
 
 returns-2 : tie.Need-returns-2 Inv-loop μ-loop
-returns-2 c = rw (c .enum-told .given .1) at (c .before .before .before .before .read-some .ensures)
+returns-2 c =
+    let r = c .before .before .before .before in
+    let t = rw (c .enum-told .given .1) at (r .read-some .ensures) in
+    (t .0, came-join (r .before .before .before .before .loop .inv .2) (t .1))
 
 same-length-3 : tie.Need-same-length-3 Inv-loop μ-loop
 same-length-3 c = search needs

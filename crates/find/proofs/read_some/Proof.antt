@@ -1,5 +1,7 @@
 -- `read_some` meets its contract: it makes the receipts. Assumes nothing.
-use Rattle.find.specs.Receipts.{Came, Ended}
+use mathlib.Core.Path.{refl}
+use Rattle.find.specs.Receipts.{make-came, make-ended}
+use Rattle.find.proofs.Moving.{came-none}
 use borrow.Author.Needs.{needs}
 use Rattle.find.proofs.read_some.Statement.{statement}
 use Rattle.find.proofs.read_some.Tie as tie
@@ -17,7 +19,7 @@ same-length : tie.Need-same-length
 same-length c = search needs
 
 returns : tie.Need-returns
-returns c = search needs
+returns c = (c .give-up .ensures, came-none _ _ refl)
 
 count-requires : tie.Need-count-requires
 count-requires c κs = search needs
@@ -29,19 +31,19 @@ same-length-2 : tie.Need-same-length-2
 same-length-2 c = search needs
 
 returns-2 : tie.Need-returns-2
-unfolding Came Ended
 returns-2 c =
+    let size = c .before .before .before .count .ensures .0 .1 in
     record {
       within = search needs;
-      came = record { counted = rw (← c .before .before .before .count .ensures .0 .1) (c .before .count-on .ensures .done (c .if2 .taken)); each = λ i h. tt };
-      ends = λ h. tt;
+      came = record { counted = rw (← size) (c .before .count-on .ensures .done (c .if2 .taken)); each = λ i h. make-came _ _ };
+      ends = λ h. make-ended _;
     }
 
 same-length-3 : tie.Need-same-length-3
 same-length-3 c = search needs
 
 returns-3 : tie.Need-returns-3
-returns-3 c = c .before .count-on .ensures .told (c .if2 .left) .0
+returns-3 c = let t = c .before .count-on .ensures .told (c .if2 .left) in (t .0, came-none _ _ (t .1))
 
 pub read-some-spec : {M : Type 1} → statement M
 read-some-spec =

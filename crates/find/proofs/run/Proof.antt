@@ -13,7 +13,9 @@ read-line-requires c κs = search needs
 returns : tie.Need-returns
 returns c =
     let l = c .before .before in
-    is-told (l .read-line .ensures .1 .so-far .told (not-true _ (c .if1 .taken)) .0) (ran-not (l .before .before .before .pre .1) refl)
+    let s = l .before .before .before .pre in
+    let t = l .read-line .ensures .1 .so-far .told (not-true _ (c .if1 .taken)) in
+    is-told (t .0) (ran-not (t .1) (s .0) (s .1) refl)
 
 slice-aggregate-prepare-line : tie.Need-slice-aggregate-prepare-line
 slice-aggregate-prepare-line c = search needs
