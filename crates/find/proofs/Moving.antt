@@ -64,7 +64,7 @@ behind n k xs ys zs h l =
     let size : length (take n xs) ≡ n = length-take-le n xs h in
     rw size at (take-append-add (take n xs) (ys ++ zs) k) ∙ ap (λ (r : List ℕ). take n xs ++ r) (take-append-le k ys zs l)
 
-module _ (xs ys zs : List ℕ) {at mid after : ℕ} (n k : ℕ) (h : n ≤ length xs) (m : Moved Came at mid (take n xs)) (r : Brought 1 mid k after ys) where
+module _ (xs ys zs : List ℕ) {at mid after : ℕ} (n k : ℕ) (h : n ≤ length xs) (m : Moved Came at mid (take n xs)) {full : ℕ} (r : Brought full mid k after ys) where
   pub read-on : Moved Came at after (take (n + k) (take n xs ++ (ys ++ zs)))
   read-on = rw (behind n k xs ys zs h (r .within)) (moved-join m (r .came))
 

@@ -17,7 +17,7 @@ use Rattle.find.specs.declared.Start.{Start}
 use Rattle.find.specs.declared.Progress.{Progress}
 use Rattle.find.specs.Printed.{line-refusal, line-sheet}
 use Rattle.find.specs.Output.{cut, text-output, output-after, output}
-use Rattle.find.specs.Receipts.{Sent, Moved, May-follow}
+use Rattle.find.specs.Receipts.{Sent, Broken, Moved, May-follow}
 use Rattle.find.specs.Program.{Some-came, Sent-or-told, Line-on, Line-read, Search-on, Search-stopped, Searched, Complete, Stopped, Ran}
 use Rattle.find.proofs.Moving.{moved-none, moved-join}
 use Rattle.find.proofs.FirstLine.{read-over}
@@ -71,19 +71,23 @@ module _
         out = g .out;
         read = moved-join (f .came) (g .came);
         wrote = g .sent;
+        via = g .via;
+        broken = g .broken;
         begins = λ rest.
             let b = g .begins rest in
             record { rest = b .rest; is = rw append-assoc (search-then none (g .bytes ++ rest) ∙ b .is) };
       }
 
 -- stopped where nothing was sent
-pub ran-not : {at came from sent : ℕ} → Some-came at came → at ≡ 0 → from ≡ 0 → sent ≡ from → Stopped came sent
+pub ran-not : {at came from sent : ℕ} → Some-came at came → at ≡ 0 → from ≡ 0 → Broken from sent → Stopped came sent
 ran-not c a z e =
     record {
       bytes = c .bytes;
       out = [];
       read = rw a at (c .came);
-      wrote = rw (e, z) (moved-none Sent 0);
+      wrote = moved-none Sent 0;
+      via = 0;
+      broken = rw z at e;
       begins = λ rest. record { rest = output (c .bytes ++ rest); is = refl };
     }
 

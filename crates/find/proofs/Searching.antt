@@ -17,7 +17,7 @@ use Rattle.find.specs.declared.Turn.{Turn}
 use Rattle.find.specs.declared.Progress.{Progress}
 use Rattle.find.specs.Printed.{piece-size, last, piece-form, piece-watch, Piece-taken}
 use Rattle.find.specs.Output.{cut, text-output}
-use Rattle.find.specs.Receipts.{Came, Ended, Sent, Told, Moved, May-follow}
+use Rattle.find.specs.Receipts.{Came, Ended, Sent, Told, Broken, unmoved, Moved, May-follow}
 use Rattle.find.specs.Program.{Some-came, Brought, Sent-or-told, Rises, Piece-sent, Piece-printed, Search-on, Search-stopped, Searched}
 use Rattle.find.proofs.Texts.{cut-last, cut-more}
 use Rattle.find.proofs.Moving.{is-done, is-told, moved-none, moved-join}
@@ -49,13 +49,15 @@ taken-printed s x c k from to t out more ok f p e =
     }
 
 -- STOPPED where some bytes came and nothing was sent
-stopped-here : (s : List ℕ) (x : Watch) {at from after to : ℕ} → Some-came at after → to ≡ from → Search-stopped s x at from after to
+stopped-here : (s : List ℕ) (x : Watch) {at from after to : ℕ} → Some-came at after → Broken from to → Search-stopped s x at from after to
 stopped-here s x {from = from} c e =
     record {
+      via = from;
       bytes = c .bytes;
       out = [];
       came = c .came;
-      sent = rw e (moved-none Sent from);
+      sent = moved-none Sent from;
+      broken = e;
       begins = λ rest. record { rest = text-output s (cut (c .bytes ++ rest)) x; is = refl };
     }
 
@@ -140,7 +142,7 @@ search-started s x at from =
 pub search-failed : (s : List ℕ) (x y : Watch) (at from after : ℕ) → Told × Some-came at after →
     Searched s x at from (progress y false false) after from × Rises false at after
 search-failed s x y at from after t =
-    (record { so-far = is-told (t .0) (stopped-here s x (t .1) refl); goes = λ e. e }, λ h. absurd (true≢false (sym h)))
+    (record { so-far = is-told (t .0) (stopped-here s x (t .1) (unmoved from from refl)); goes = λ e. e }, λ h. absurd (true≢false (sym h)))
 
 -- TURN AFTER TURN
 search-join : {s : List ℕ} {x y z : Watch} {t : Bool} {at mid after from via to : ℕ} →
@@ -160,10 +162,12 @@ stopped-join : {s : List ℕ} {x y : Watch} {at mid after from via to : ℕ} →
     Search-on s x at from y true mid via → Search-stopped s y mid via after to → Search-stopped s x at from after to
 stopped-join f g =
     record {
+      via = g .via;
       bytes = f .bytes ++ g .bytes;
       out = f .out ++ g .out;
       came = moved-join (f .came) (g .came);
       sent = moved-join (f .sent) (g .sent);
+      broken = g .broken;
       begins = λ rest.
           let b = g .begins rest in
           record {

@@ -12,11 +12,11 @@ use Rattle.finder.specs.Entry.{feed-refusal}
 use Rattle.forms.specs.declared.Line.{Line}
 use Rattle.forms.specs.declared.Line.the-variants.{Wrong}
 use Rattle.forms.specs.Line.{goes-on, read}
-use Rattle.find.specs.declared.Got.{Got}
-use Rattle.find.specs.declared.Got.the-variants.{Bytes, Failed}
+use Rattle.find.specs.declared.system.Got.{Got}
+use Rattle.find.specs.declared.system.Got.the-variants.{Bytes, Failed}
 use Rattle.find.specs.declared.Start.{Start}
 use Rattle.find.specs.declared.Progress.{Progress}
-use Rattle.find.specs.Receipts.{Came, Ended, Sent, Told, Moved, May-follow}
+use Rattle.find.specs.Receipts.{Came, Ended, Sent, Told, Broken, Moved, May-follow}
 use Rattle.find.specs.Printed.{last, piece-form, piece-watch}
 use Rattle.find.specs.Output.{cut, text-output, output}
 
@@ -42,7 +42,7 @@ Got-into n at Failed after b = Told × Some-came at after
 
 -- PRINTING: these bytes were sent, all of them, or none is counted
 abbrev pub Sent-or-told : (at : ℕ) → (bytes : List ℕ) → (ok : Bool) → (after : ℕ) → Type 0
-Sent-or-told at bs r after = Done-or-told r (Moved Sent at after bs) (after ≡ at)
+Sent-or-told at bs r after = Done-or-told r (Moved Sent at after bs) (Broken at after)
 
 -- a list begins with another
 pub record Start-of (xs ys : List ℕ) : Type 0 where
@@ -74,7 +74,7 @@ pub record Piece-sent (x : Watch) (piece : List ℕ) (refusal : ℕ) (f : Fed) (
 
 pub record Piece-printed (sheet : List ℕ) (x : Watch) (piece : List ℕ) (k from : ℕ) (r : Progress) (to : ℕ) : Type 0 where
   pub all :
-      Done-or-told (r .ok) (Piece-sent x piece (feed-refusal sheet x (length piece) k) (feed (named sheet) piece k x) from r to) (to ≡ from)
+      Done-or-told (r .ok) (Piece-sent x piece (feed-refusal sheet x (length piece) k) (feed (named sheet) piece k x) from r to) (Broken from to)
   pub goes : r .more ≡ true → r .ok ≡ true
 
 -- THE SEARCH, from watch x to watch y: bytes came, and those were sent that are to be printed for them. This holds whatever follows them; only where no
@@ -90,10 +90,12 @@ pub record Search-on (sheet : List ℕ) (x : Watch) (at from : ℕ) (y : Watch) 
 
 -- a search that was stopped: bytes came, and those were sent that are to be printed first, whatever follows them
 pub record Search-stopped (sheet : List ℕ) (x : Watch) (at from after to : ℕ) : Type 0 where
+  pub via : ℕ
   pub bytes : List ℕ
   pub out : List ℕ
   pub came : Moved Came at after bytes
-  pub sent : Moved Sent from to out
+  pub sent : Moved Sent from via out
+  pub broken : Broken via to
   pub begins : (rest : List ℕ) → Start-of out (text-output sheet (cut (bytes ++ rest)) x)
 
 -- what one piece, and the loop over the pieces, come to
@@ -111,10 +113,12 @@ pub record Complete (came sent : ℕ) : Type 0 where
 
 -- A RUN THAT WAS STOPPED: those sent are what the output begins with, whatever the input has behind those that came; so they have no end form
 pub record Stopped (came sent : ℕ) : Type 0 where
+  pub via : ℕ
   pub bytes : List ℕ
   pub out : List ℕ
   pub read : Moved Came 0 came bytes
-  pub wrote : Moved Sent 0 sent out
+  pub wrote : Moved Sent 0 via out
+  pub broken : Broken via sent
   pub begins : (rest : List ℕ) → Start-of out (output (bytes ++ rest))
 
 -- THE PROGRAM's promise: a complete run, or it was stopped, and standard error was told

@@ -1,6 +1,6 @@
--- RECEIPTS for what the system did. No contract can say which bytes a call reads or writes, so these are shut names: anyone can state one, and only
--- its maker below makes it. Each maker is for one small function's proof, which tests/receipts holds to: make-came and make-ended for `read_some`,
--- make-sent for `print`, make-told for `give_up`.
+-- RECEIPTS for what the system did. No contract can say which bytes a call reads or writes, so these are shut names: anyone can state one, and its maker
+-- below makes it. Each maker is for one proof of src/system.rt, as tests/receipts sees: make-came and make-ended for `read_some`, make-sent for
+-- `print`, make-told for `give_up`.
 use mathlib.Core.Path.{_≡_}
 use mathlib.Core.List.{List, []}
 use Prim.Native.Nat.{ℕ, _+_, _^_, _≤_, _<_}
@@ -31,13 +31,21 @@ pub make-sent : (i c : ℕ) → Sent i c
 unfolding Sent
 make-sent i c = tt
 
--- what standard error is told, that the search is not complete, was written to it
+-- standard error is told that the search is not complete
 pub Told : Type 0
 Told = Unit {0}
 
 pub make-told : Told
 unfolding Told
 make-told = tt
+
+-- the count of bytes sent went from `at` to `after`, and no write between them is known to be whole. Shut, so that no proof goes on behind it
+pub Broken : (at after : ℕ) → Type 0
+Broken at after = after ≡ at
+
+pub unmoved : (at after : ℕ) → after ≡ at → Broken at after
+unfolding Broken
+unmoved at after e = e
 
 -- n more were counted, from `at` to `after`, in 64 bits
 pub record Counted-on (at n after : ℕ) : Type 0 where

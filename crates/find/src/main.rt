@@ -1,6 +1,8 @@
 // find: reads `(code X)`, a line feed and a text from standard input, and prints each place of X in the text, then what was counted.
-// `run` is the program, and its contract says what it does with the bytes that came. Only what the system did is left to reading, in `give_up`,
-// `read_some` and `print`. `came` and `sent` count the bytes read and written; `count_on` alone changes them.
+// `run` is the program, and its contract says what it does with the bytes that came. Only what the system did is left to reading, in system.rt. `came`
+// and `sent` count the bytes read and written, and nothing here looks at them.
+mod system;
+
 ghost use mathlib.Core.Path.{_≡_};
 ghost use mathlib.Core.Bool.{true, false};
 ghost use Prim.Native.Nat.{_+_, _*_, _≤_};
@@ -10,59 +12,15 @@ ghost use Rattle.finder.specs.Feed.{opened};
 ghost use Rattle.forms.specs.Line.{goes-on};
 ghost use Rattle.forms.specs.Text.{refused-form};
 ghost use Rattle.find.specs.Printed.{prepared-refusal, prepared-sheet, line-refusal, line-sheet, room, Piece-taken};
-ghost use Rattle.find.specs.Receipts.{Told, Counted-on};
-ghost use Rattle.find.specs.Program.{Done-or-told, Rises, Got-into, Line-read, Sent-or-told, Piece-printed, Searched, Ran};
+ghost use Rattle.find.specs.Program.{Rises, Got-into, Line-read, Sent-or-told, Piece-printed, Searched, Ran};
 use codes::Answer;
 use finder::Ending;
 use finder::Watch;
 use forms::Line;
+use system::Got;
 
 // The bytes of a piece; fewer make the last one.
 const PIECE: usize = 4096;
-
-// Says on standard error that the search is not complete. The output then has no end form.
-fn give_up(why: &[u8])
-    ensures { λ _. ⌜ Told ⌝ }
-{
-    io::write_all(libc::STDERR_FILENO, b"find: not complete: ");
-    io::write_all(libc::STDERR_FILENO, why);
-    io::write_all(libc::STDERR_FILENO, b"\n");
-}
-
-// Moves a count of bytes on, unless it would wrap.
-fn count_on(count: &mut u64, n: usize) -> bool
-    ensures { λ r. ⌜ Done-or-told r (Counted-on (now (count .entry)) n (now (count .exit))) (now (count .exit) ≡ now (count .entry)) ⌝ }
-{
-    if u64::MAX - *count < n as u64 {
-        give_up(b"more bytes than can be counted");
-        return false;
-    }
-    *count += n as u64;
-    true
-}
-
-// What was read: so many bytes, or a read failed.
-enum Got {
-    Bytes(usize),
-    Failed,
-}
-
-// One read: none only where the input ends.
-fn read_some(came: &mut u64, part: &mut [u8]) -> Got
-    requires { ⌜ 1 ≤ length (now part) ⌝ }
-    ensures { λ r. ⌜ Got-into 1 (now (came .entry)) r (now (came .exit)) (now (part .exit)) ⌝ }
-{
-    let got = libc::read(libc::STDIN_FILENO, part);
-    if got < 0 {
-        give_up(b"the input could not be read");
-        return Got::Failed;
-    }
-    let n = io::count(got, part);
-    if count_on(came, n) {
-        return Got::Bytes(n);
-    }
-    Got::Failed
-}
 
 // Reads until a buffer is full or the input ends, whatever each read brings.
 fn read_full(came: &mut u64, buffer: &mut [u8]) -> Got
@@ -70,7 +28,7 @@ fn read_full(came: &mut u64, buffer: &mut [u8]) -> Got
 {
     let mut n = 0;
     while n < buffer.len() {
-        let got = read_some(came, &mut buffer[n..]);
+        let got = system::read_some(came, &mut buffer[n..]);
         match got {
             Got::Bytes(k) => {
                 if k == 0 {
@@ -82,18 +40,6 @@ fn read_full(came: &mut u64, buffer: &mut [u8]) -> Got
         }
     }
     Got::Bytes(n)
-}
-
-// Writes the first n bytes of a buffer to standard output; whether that was possible.
-fn print(sent: &mut u64, buffer: &[u8], n: usize) -> bool
-    requires { ⌜ n ≤ length (now buffer) ⌝ }
-    ensures { λ r. ⌜ Sent-or-told (now (sent .entry)) (take n (now (buffer .entry))) r (now (sent .exit)) ⌝ }
-{
-    if io::write_all(libc::STDOUT_FILENO, &buffer[..n]) {
-        return count_on(sent, n);
-    }
-    give_up(b"the output could not be written");
-    false
 }
 
 // The first line as far as it was read, whether more of it is to be read, and whether nothing failed.
@@ -109,7 +55,7 @@ fn read_byte(came: &mut u64, line: Line, kept: &mut [u8; 256]) -> Start
     ensures { λ r. ⌜ Line-read line (now (kept .entry)) (now (came .entry)) r (now (kept .exit)) (now (came .exit)) × Rises (r .more) (now (came .entry)) (now (came .exit)) ⌝ }
 {
     let mut one = [0u8; 1];
-    let got = read_some(came, &mut one);
+    let got = system::read_some(came, &mut one);
     match got {
         Got::Bytes(n) => {
             if n == 0 {
@@ -250,7 +196,8 @@ fn print_piece(
     let turn = take_piece(sheet, watch, &buffer[..n], places, out);
     let next = turn.watch;
     let more = turn.more;
-    let ok = print(sent, out, turn.printed);
+    let k = turn.printed;
+    let ok = system::print(sent, &out[..k]);
     Progress {
         watch: next,
         more: more && ok,
@@ -306,7 +253,7 @@ fn print_refusal(sent: &mut u64, number: u32) -> bool
 {
     let mut out = [0u8; 32];
     let n = forms::put_refused(&mut out, 0, number);
-    print(sent, &out, n)
+    system::print(sent, &out[..n])
 }
 
 // The program; whether it is complete.

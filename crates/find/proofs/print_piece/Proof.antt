@@ -1,5 +1,5 @@
 -- `print_piece` meets its contract. Assumes nothing.
-use mathlib.Core.Path.{sym, refl}
+use mathlib.Core.Path.{refl, sym}
 use lib.Seq.{length-take-le}
 use Rattle.find.proofs.Searching.{taken-printed}
 use borrow.Author.Needs.{needs}
@@ -11,6 +11,12 @@ slice-aggregate-take-piece c = sym (length-take-le _ _ (c .before .before .befor
 
 take-piece-requires : tie.Need-take-piece-requires
 take-piece-requires c κs = search needs
+
+slice-reshare-prefix-print : tie.Need-slice-reshare-prefix-print
+slice-reshare-prefix-print c = search needs
+
+slice-aggregate-print : tie.Need-slice-aggregate-print
+slice-aggregate-print c = sym (length-take-le _ _ (c .before .before .before .before .before .before .before .take-piece .ensures .inside))
 
 print-requires : tie.Need-print-requires
 print-requires c κs = search needs
@@ -24,7 +30,8 @@ same-length-2 c = search needs
 returns : tie.Need-returns
 returns c =
     let p = c .before in
-    taken-printed _ _ _ _ _ _ _ _ _ _ (p .before .before .before .before .before .before .before .before .take-piece .ensures) (p .print .ensures) (rw (c .if1 .taken) refl)
+    let t = p .before .before .before .before .before .before .before .before in
+    taken-printed _ _ _ _ _ _ _ _ _ _ (t .take-piece .ensures) (p .print .ensures) (rw (c .if1 .taken) refl)
 
 same-length-3 : tie.Need-same-length-3
 same-length-3 c = search needs
@@ -35,7 +42,8 @@ same-length-4 c = search needs
 returns-2 : tie.Need-returns-2
 returns-2 c =
     let p = c .before in
-    taken-printed _ _ _ _ _ _ _ _ _ _ (p .before .before .before .before .before .before .before .before .take-piece .ensures) (p .print .ensures) (rw (c .if1 .left) refl)
+    let t = p .before .before .before .before .before .before .before .before in
+    taken-printed _ _ _ _ _ _ _ _ _ _ (t .take-piece .ensures) (p .print .ensures) (rw (c .if1 .left) refl)
 
 pub print-piece-spec : {M : Type 1} → statement M
 print-piece-spec =
@@ -43,6 +51,8 @@ print-piece-spec =
     (tie.spec
     slice-aggregate-take-piece
     take-piece-requires
+    slice-reshare-prefix-print
+    slice-aggregate-print
     print-requires
     same-length
     same-length-2

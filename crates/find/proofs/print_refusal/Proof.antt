@@ -1,5 +1,7 @@
 -- `print_refusal` meets its contract. Assumes nothing.
+use mathlib.Core.Path.{sym}
 use native.Mathlib.Omega.{arith}
+use lib.Seq.{length-take-le}
 use Rattle.find.proofs.Pieces.{written-all}
 use borrow.Author.Needs.{needs}
 use Rattle.find.proofs.print_refusal.Statement.{statement}
@@ -11,14 +13,19 @@ slice-aggregate-put-refused c = search needs
 put-refused-requires : tie.Need-put-refused-requires
 put-refused-requires c κs = search needs
 
+array-share-prefix-out : tie.Need-array-share-prefix-out
+array-share-prefix-out c = search needs
+
 slice-aggregate-print : tie.Need-slice-aggregate-print
-slice-aggregate-print c = search needs
+slice-aggregate-print c = sym (length-take-le _ _ (search needs))
 
 print-requires : tie.Need-print-requires
 print-requires c κs = search needs
 
 returns : tie.Need-returns
-returns c = rw (written-all (c .before .before .before .before .put-refused .ensures .0) (omega (arith, c .before .before .before .before .put-refused .ensures .1)) .0) at (c .print .ensures)
+returns c =
+    let w = c .before .before .before .before .put-refused .ensures in
+    rw (written-all (w .0) (omega (arith, w .1)) .0) at (c .print .ensures)
 
 pub print-refusal-spec : {M : Type 1} → statement M
 print-refusal-spec =
@@ -26,6 +33,7 @@ print-refusal-spec =
     (tie.spec
     slice-aggregate-put-refused
     put-refused-requires
+    array-share-prefix-out
     slice-aggregate-print
     print-requires
     returns)

@@ -8,9 +8,6 @@ use Rattle.find.specs.Receipts.{Came, Moved}
 use Rattle.find.proofs.Moving.{moved-none, came-join, read-on, read-none}
 use Rattle.find.proofs.read_full.Statement.{statement}
 use Rattle.find.proofs.read_full.Tie as tie
-use Rattle.find.proofs.read_full.Reads as reads
-use Rattle.find.proofs.read_full.Lts as lts
-use Rattle.find.proofs.read_some.Reads as read-some-reads
 
 abbrev Inv-loop : tie.InvT-loop
 Inv-loop came₀ buffer₀ n₀ came buffer n = (n ≤ length buffer) × (length buffer ≡ length buffer₀) × Moved Came came₀ came (take n buffer)

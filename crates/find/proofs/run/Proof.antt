@@ -1,6 +1,7 @@
 -- `run` meets its contract. By whether the first line could be read, and whether it is refused. Assumes nothing.
 use mathlib.Core.Path.{refl}
 use borrow.Author.Tests.{not-true, not-false}
+use Rattle.find.specs.Receipts.{unmoved}
 use Rattle.find.proofs.Moving.{is-told}
 use Rattle.find.proofs.Running.{ran-not, ran-refused, ran-searched}
 use borrow.Author.Needs.{needs}
@@ -15,7 +16,7 @@ returns c =
     let l = c .before .before in
     let s = l .before .before .before .pre in
     let t = l .read-line .ensures .1 .so-far .told (not-true _ (c .if1 .taken)) in
-    is-told (t .0) (ran-not (t .1) (s .0) (s .1) refl)
+    is-told (t .0) (ran-not (t .1) (s .0) (s .1) (unmoved _ _ refl))
 
 slice-aggregate-prepare-line : tie.Need-slice-aggregate-prepare-line
 slice-aggregate-prepare-line c = search needs

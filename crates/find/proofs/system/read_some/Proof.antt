@@ -3,8 +3,8 @@ use mathlib.Core.Path.{refl}
 use Rattle.find.specs.Receipts.{make-came, make-ended}
 use Rattle.find.proofs.Moving.{came-none}
 use borrow.Author.Needs.{needs}
-use Rattle.find.proofs.read_some.Statement.{statement}
-use Rattle.find.proofs.read_some.Tie as tie
+use Rattle.find.proofs.system.read_some.Statement.{statement}
+use Rattle.find.proofs.system.read_some.Tie as tie
 
 read-requires : tie.Need-read-requires
 read-requires c κs = search needs

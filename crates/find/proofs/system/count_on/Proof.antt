@@ -2,8 +2,8 @@
 use Rattle.find.proofs.Moving.{is-done, is-told}
 use mathlib.Core.Path.{refl}
 use borrow.Author.Needs.{needs}
-use Rattle.find.proofs.count_on.Statement.{statement}
-use Rattle.find.proofs.count_on.Tie as tie
+use Rattle.find.proofs.system.count_on.Statement.{statement}
+use Rattle.find.proofs.system.count_on.Tie as tie
 
 sub-if1 : tie.Need-sub-if1
 sub-if1 c = search needs

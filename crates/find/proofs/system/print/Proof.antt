@@ -1,14 +1,10 @@
 -- `print` meets its contract: it makes the receipts. Assumes nothing.
+use mathlib.Core.Path.{refl}
+use Rattle.find.specs.Receipts.{make-sent, unmoved}
 use Rattle.find.proofs.Moving.{is-told}
-use Rattle.find.specs.Receipts.{make-sent}
-use lib.Seq.{length-take-le}
-use mathlib.Core.Path.{refl, sym}
 use borrow.Author.Needs.{needs}
-use Rattle.find.proofs.print.Statement.{statement}
-use Rattle.find.proofs.print.Tie as tie
-
-slice-aggregate-write-all : tie.Need-slice-aggregate-write-all
-slice-aggregate-write-all c = sym (length-take-le _ _ (c .before .before .pre))
+use Rattle.find.proofs.system.print.Statement.{statement}
+use Rattle.find.proofs.system.print.Tie as tie
 
 write-all-requires : tie.Need-write-all-requires
 write-all-requires c κs = search needs
@@ -18,11 +14,9 @@ count-on-requires c κs = search needs
 
 returns : tie.Need-returns
 returns c =
-    let s = c .before .before .before .before .before .before in
-    let size = length-take-le (s .args .n) (s .args .buffer .now) (s .pre) in
     record {
-      done = λ e. record { counted = rw size (c .count-on .ensures .done e); each = λ i h. make-sent _ _ };
-      told = c .count-on .ensures .told;
+      done = λ e. record { counted = c .count-on .ensures .done e; each = λ i h. make-sent _ _ };
+      told = λ e. let t = c .count-on .ensures .told e in (t .0, unmoved _ _ (t .1));
     }
 
 slice-aggregate-give-up : tie.Need-slice-aggregate-give-up
@@ -32,13 +26,12 @@ give-up-requires : tie.Need-give-up-requires
 give-up-requires c κs = search needs
 
 returns-2 : tie.Need-returns-2
-returns-2 c = is-told (c .give-up .ensures) refl
+returns-2 c = is-told (c .give-up .ensures) (unmoved _ _ refl)
 
 pub print-spec : {M : Type 1} → statement M
 print-spec =
     tie.close
     (tie.spec
-    slice-aggregate-write-all
     write-all-requires
     count-on-requires
     returns

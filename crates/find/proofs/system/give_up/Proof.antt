@@ -1,8 +1,8 @@
 -- `give_up` meets its contract: it makes the receipt. Assumes nothing.
 use Rattle.find.specs.Receipts.{make-told}
 use borrow.Author.Needs.{needs}
-use Rattle.find.proofs.give_up.Statement.{statement}
-use Rattle.find.proofs.give_up.Tie as tie
+use Rattle.find.proofs.system.give_up.Statement.{statement}
+use Rattle.find.proofs.system.give_up.Tie as tie
 
 slice-aggregate-write-all : tie.Need-slice-aggregate-write-all
 slice-aggregate-write-all c = search needs
