@@ -111,7 +111,8 @@ pub record Complete (came sent : ℕ) : Type 0 where
   pub wrote : Moved Sent 0 sent out
   pub right : (rest : List ℕ) → May-follow came rest → out ≡ output (bytes ++ rest)
 
--- A RUN THAT WAS STOPPED: those sent are what the output begins with, whatever the input has behind those that came; so they have no end form
+-- A RUN THAT WAS STOPPED: those sent before a write failed, or all, are what the output begins with, whatever the input has behind those that came; so they
+-- have no end form
 pub record Stopped (came sent : ℕ) : Type 0 where
   pub via : ℕ
   pub bytes : List ℕ
