@@ -5,112 +5,32 @@
 #include <stdlib.h>
 #include <string.h>
 
+#include "figures.h"
 #include "process.h"
 #include "rivals.h"
-#include "texts.h"
+#include "tasks.h"
 
-enum {
-    PIECE = 4096,          /* bytes of text to a feeding */
-    LIST = 4096,           /* places to a feeding */
-    DEAREST_IN = 1 << 20,  /* bytes among which the dearest is looked for */
-};
+enum { DEAREST_IN = 1 << 20 }; /* bytes among which the dearest is looked for */
 
 static const double patience = 2.0; /* a finder that has used so many seconds on a text is not run on it again */
 
 /* The finders, in the table's order. */
 enum { RATTLE, TWIN, KMP, MEMMEM, GREP, RG, FINDERS };
 
-/* A text and a code to look for in it: a word, the first m bytes of another text, or m bytes of the text's own middle. */
-struct job {
-    const char *text_name;
-    text_maker *make;
-    const char *code_name;
-    const char *word;
-    text_maker *code_maker;
-    size_t m;
-};
-
-static const struct job jobs[] = {
-    {"plan", plan_text, "R1234", "R1234", NULL, 0},
-    {"plan", plan_text, "R9999Z", "R9999Z", NULL, 0},
-    {"plan", plan_text, "PLUM-CAKE-77", "PLUM-CAKE-77", NULL, 0},
-    {"plan", plan_text, "-04-", "-04-", NULL, 0},
-    {"plan", plan_text, " rye 1235 g", " rye 1235 g", NULL, 0},
-    {"a^n", one_letter, "a", "a", NULL, 0},
-    {"a^n", one_letter, "a^255", NULL, one_letter, 255},
-    {"(ab^254)*", ab_text, "ab^254", NULL, ab_text, 255},
-    {"Fibonacci", fibonacci_word, "its first 233", NULL, fibonacci_word, 233},
-    {"ruler", ruler_word, "its first 255", NULL, ruler_word, 255},
-    {"ruler, unknown byte", ruler_unknown, "ruler's first 255", NULL, ruler_word, 255},
-    {"random, 2 letters", random_2, "abbabaab", "abbabaab", NULL, 0},
-    {"random, 2 letters", random_2, "a^16", NULL, one_letter, 16},
-    {"random, 4 letters", random_4, "abcdabca", "abcdabca", NULL, 0},
-    {"random bytes", random_256, "8 of its bytes", NULL, NULL, 8},
-};
-
-enum { JOBS = sizeof jobs / sizeof *jobs };
-
-static uint8_t *text;
-static size_t n;
-static uint8_t code[LONGEST_CODE + 1];
-static size_t m;
-static uint8_t sheet[SHEET_ROOM];
-static size_t sheet_length;
-static uint32_t places[LIST];
+static struct search s;
 static const char *text_file;
-static char code_argument[LONGEST_CODE + 1];
-
-/* What a run found. The check number depends on each place and on their order. */
-struct found {
-    uint64_t hits;
-    uint64_t compares;
-    uint64_t check;
-    uint64_t last;
-    int overlap; /* two places closer than the code is long */
-};
-
-static void note(struct found *r, uint64_t place)
-{
-    if (r->hits > 0 && place - r->last < m)
-        r->overlap = 1;
-    r->last = place;
-    r->hits++;
-    r->check = (r->check ^ place) * 0x9E3779B97F4A7C15u;
-}
-
-/* A whole text by one of the feeders. */
-static struct found feed_text(feeder *feed, int checking)
-{
-    struct found r = {0};
-    struct fed f = {0};
-    size_t at = 0;
-
-    while (at < n) {
-        size_t length = n - at < PIECE ? n - at : PIECE;
-        f = feed(sheet, sheet_length, f.state, f.taken, f.hits, f.compares, text + at, length, places, LIST);
-        if (f.refusal != 0)
-            stop("a feeding was refused", "");
-        at += f.read;
-        if (checking)
-            for (uint32_t k = 0; k < f.written; k++)
-                note(&r, places[k]);
-    }
-    r.hits = f.hits;
-    r.compares = f.compares;
-    return r;
-}
 
 /* A whole text by memmem, which goes on one byte behind each place. */
 static struct found memmem_text(int checking)
 {
     struct found r = {0};
-    const uint8_t *from = text;
-    const uint8_t *end = text + n;
+    const uint8_t *from = s.text;
+    const uint8_t *end = s.text + s.n;
     const uint8_t *p;
 
-    while ((p = memmem(from, (size_t)(end - from), code, m)) != NULL) {
+    while ((p = memmem(from, (size_t)(end - from), s.code, s.m)) != NULL) {
         if (checking)
-            note(&r, (uint64_t)(p - text));
+            note(&r, (uint64_t)(p - s.text), s.m);
         else
             r.hits++;
         from = p + 1;
@@ -135,15 +55,15 @@ static void read_lines(void *state, const char *bytes, size_t length)
             l->place = 0;
         } else if (l->in_number && bytes[i] == ':') {
             l->in_number = 0;
-            note(&l->found, l->place);
+            note(&l->found, l->place, s.m);
         } else if (l->in_number) {
             l->place = 10 * l->place + (uint64_t)(bytes[i] - '0');
         }
     }
 }
 
-static char *const grep[] = {"grep", "-F", "-o", "-b", "-a", "-e", code_argument, "--", NULL, NULL};
-static char *const rg[] = {"rg", "--no-config", "-F", "-o", "-b", "-a", "-N", "-I", "-e", code_argument, "--", NULL, NULL};
+static char *const grep[] = {"grep", "-F", "-o", "-b", "-a", "-e", (char *)s.code, "--", NULL, NULL};
+static char *const rg[] = {"rg", "--no-config", "-F", "-o", "-b", "-a", "-N", "-I", "-e", (char *)s.code, "--", NULL, NULL};
 
 /* Runs grep or rg on the file of the text. */
 static double program_text(char *const *command, sink *take, void *state)
@@ -163,9 +83,9 @@ static double timed(int finder)
     double start = cpu_now();
 
     switch (finder) {
-    case RATTLE: feed_text(speed_feed, 0); break;
-    case TWIN: feed_text(twin_feed, 0); break;
-    case KMP: feed_text(kmp_feed, 0); break;
+    case RATTLE: feed_text(speed_feed, &s, 0); break;
+    case TWIN: feed_text(twin_feed, &s, 0); break;
+    case KMP: feed_text(kmp_feed, &s, 0); break;
     case MEMMEM: memmem_text(0); break;
     case GREP: return program_text(grep, NULL, NULL);
     default: return program_text(rg, NULL, NULL);
@@ -178,9 +98,9 @@ static struct found checked(int finder)
     struct lines l = {.in_number = 1};
 
     switch (finder) {
-    case RATTLE: return feed_text(speed_feed, 1);
-    case TWIN: return feed_text(twin_feed, 1);
-    case KMP: return feed_text(kmp_feed, 1);
+    case RATTLE: return feed_text(speed_feed, &s, 1);
+    case TWIN: return feed_text(twin_feed, &s, 1);
+    case KMP: return feed_text(kmp_feed, &s, 1);
     case MEMMEM: return memmem_text(1);
     default: program_text(finder == GREP ? grep : rg, read_lines, &l); return l.found;
     }
@@ -210,10 +130,11 @@ static uint64_t dearest(void)
 {
     struct fed f = {0};
     uint64_t most = 0;
+    uint32_t place;
 
-    for (size_t i = 0; i < n && i < DEAREST_IN; i++) {
+    for (size_t i = 0; i < s.n && i < DEAREST_IN; i++) {
         uint64_t before = f.compares;
-        f = speed_feed(sheet, sheet_length, f.state, f.taken, f.hits, f.compares, text + i, 1, places, LIST);
+        f = speed_feed(s.sheet, s.sheet_length, f.state, f.taken, f.hits, f.compares, s.text + i, 1, &place, 1);
         if (f.compares - before > most)
             most = f.compares - before;
     }
@@ -227,70 +148,21 @@ static unsigned byte_ceiling(void)
     unsigned different = 0;
     unsigned arrows = 0;
 
-    for (size_t i = 0; i < m; i++) {
-        different += !seen[code[i]];
-        seen[code[i]] = 1;
+    for (size_t i = 0; i < s.m; i++) {
+        different += !seen[s.code[i]];
+        seen[s.code[i]] = 1;
     }
-    for (size_t left = m; left > 0; left /= 2)
+    for (size_t left = s.m; left > 0; left /= 2)
         arrows++;
     return arrows < different ? arrows : different;
-}
-
-static int printable(const uint8_t *bytes, size_t length)
-{
-    for (size_t i = 0; i < length; i++)
-        if (bytes[i] < ' ' || bytes[i] > '~')
-            return 0;
-    return 1;
-}
-
-/* The first m bytes from the text's middle on that can be handed to a command. */
-static void take_from_middle(void)
-{
-    for (size_t i = n / 2; i + m <= n; i++)
-        if (printable(text + i, m)) {
-            memcpy(code, text + i, m);
-            return;
-        }
-    stop("no printable code in the text", "");
 }
 
 static void write_text(void)
 {
     FILE *f = fopen(text_file, "wb");
 
-    if (!f || fwrite(text, 1, n, f) != n || fclose(f) != 0)
+    if (!f || fwrite(s.text, 1, s.n, f) != s.n || fclose(f) != 0)
         stop("cannot write", text_file);
-}
-
-static void set_up(const struct job *j)
-{
-    static text_maker *made;
-
-    if (made != j->make) {
-        j->make(text, n);
-        write_text();
-        made = j->make;
-    }
-    m = j->word ? strlen(j->word) : j->m;
-    if (j->word)
-        memcpy(code, j->word, m);
-    else if (j->code_maker)
-        j->code_maker(code, m);
-    else
-        take_from_middle();
-    memcpy(code_argument, code, m);
-    code_argument[m] = 0;
-    sheet_length = speed_prepare(code, m, sheet, sizeof sheet).length;
-    kmp_prepare(code, m);
-}
-
-static int compare_numbers(const void *a, const void *b)
-{
-    double x = *(const double *)a;
-    double y = *(const double *)b;
-
-    return (x > y) - (x < y);
 }
 
 /* The best times: in each round every finder runs once. Answers the median of the rounds' ratios of Rattle's speed to the twin's: what slows the
@@ -317,10 +189,9 @@ static double measure(const int *present, int rounds, double *best)
         }
         ratios[r] = time[TWIN] / time[RATTLE];
     }
-    qsort(ratios, (size_t)rounds, sizeof *ratios, compare_numbers);
-    double median = ratios[rounds / 2];
+    double ratio = median(ratios, rounds);
     free(ratios);
-    return median;
+    return ratio;
 }
 
 static void print_speed(double seconds, int present, const char *mark)
@@ -328,7 +199,7 @@ static void print_speed(double seconds, int present, const char *mark)
     char cell[32];
 
     if (present)
-        snprintf(cell, sizeof cell, "%.*f%s", seconds * 1e7 > (double)n ? 1 : 0, (double)n / seconds / 1e6, mark);
+        snprintf(cell, sizeof cell, "%.*f%s", seconds * 1e7 > (double)s.n ? 1 : 0, (double)s.n / seconds / 1e6, mark);
     else
         snprintf(cell, sizeof cell, "-");
     printf(" %7s |", cell);
@@ -348,11 +219,11 @@ static void print_head(void)
 
 static void print_row(const struct job *j, const struct found *r, const double *best, double ratio, const int *present)
 {
-    printf("| %-19s | %-17s | %3zu | %8llu |", j->text_name, j->code_name, m, (unsigned long long)r->hits);
+    printf("| %-19s | %-17s | %3zu | %8llu |", j->text_name, j->code_name, s.m, (unsigned long long)r->hits);
     for (int f = 0; f < FINDERS; f++)
         print_speed(best[f], present[f], f >= GREP && r->overlap ? "*" : "");
-    printf(" %8.2f | %10.4f | %8.4f | %7llu | %7u |\n", ratio, (double)r->compares / (double)n,
-           (2.0 * (double)m - 1) / (double)m, (unsigned long long)dearest(), byte_ceiling());
+    printf(" %8.2f | %10.4f | %8.4f | %7llu | %7u |\n", ratio, (double)r->compares / (double)s.n,
+           (2.0 * (double)s.m - 1) / (double)s.m, (unsigned long long)dearest(), byte_ceiling());
     fflush(stdout);
 }
 
@@ -360,7 +231,7 @@ static void print_notes(int rounds)
 {
     printf("\nMB/s (a million bytes a second) of processor time, best of %d rounds in which every finder runs once (a finder that needs over %.0f s: fewer); %.0f MB "
            "each.\n",
-           rounds, patience, (double)n / 1e6);
+           rounds, patience, (double)s.n / 1e6);
     printf("Rattle/C: Rattle's speed to the C twin's, the median of the rounds.\n");
     printf("Rattle, C twin, KMP: in memory, pieces of %d bytes, a list of %d places. Rattle and the twin verify the sheet at each call; KMP trusts its links.\n"
            "In state 0 Rattle looks at four bytes a turn, the twin at one.\n",
@@ -376,44 +247,40 @@ static void print_notes(int rounds)
 int main(int argc, char **argv)
 {
     int present[FINDERS] = {1, 1, 1, 1, 0, 0};
-    double log_sum = 0;
-    double smallest = HUGE_VAL;
+    struct ratios ratios = {0};
     double on_one_letter = 0;
 
     if (argc < 4)
         stop("usage: search MB ROUNDS FILE [grep] [rg]", "");
-    n = (size_t)strtoul(argv[1], NULL, 10) * 1000000;
+    take_memory(&s, argv[1]);
     int rounds = atoi(argv[2]);
     text_file = argv[3];
     for (int i = 4; i < argc; i++)
         for (int f = GREP; f < FINDERS; f++)
             if (strcmp(argv[i], names[f]) == 0)
                 present[f] = 1;
-    if (n == 0 || n > UINT32_MAX || rounds < 1)
-        stop("from 1 to 4294 MB, and 1 round or more", "");
-    text = malloc(n);
-    if (!text)
-        stop("no memory for the text", "");
+    if (rounds < 1)
+        stop("1 round or more", "");
     setenv("LC_ALL", "C", 1);
 
     print_head();
-    for (int k = 0; k < JOBS; k++) {
+    for (const struct job *j = jobs; j->make; j++) {
         double best[FINDERS];
 
-        set_up(&jobs[k]);
+        if (set_up(&s, j, speed_prepare))
+            write_text();
+        kmp_prepare(s.code, s.m);
         struct found r = agreed(present);
-        if (r.compares > (2 * m - 1) * n / m)
-            stop("over the total ceiling", jobs[k].text_name);
+        if (r.compares > (2 * s.m - 1) * s.n / s.m)
+            stop("over the total ceiling", j->text_name);
         double ratio = measure(present, rounds, best);
-        print_row(&jobs[k], &r, best, ratio, present);
-        log_sum += log(ratio);
-        if (ratio < smallest)
-            smallest = ratio;
-        if (jobs[k].make == one_letter && m == 255)
+        print_row(j, &r, best, ratio, present);
+        add_ratio(&ratios, ratio);
+        if (j->make == one_letter && s.m == 255)
             on_one_letter = best[MEMMEM] / best[RATTLE];
     }
     print_notes(rounds);
-    printf("\nRattle/C: geometric mean %.2f (aim 1.10), smallest %.2f (aim 0.95).\n", exp(log_sum / JOBS), smallest);
+    printf("\nRattle/C: geometric mean %.2f (aim 1.10), smallest %.2f (aim 0.95).\n", mean_ratio(&ratios), ratios.smallest);
     printf("Rattle's speed to memmem's on a^255 in a^n: %.0f times (aim 10).\n", on_one_letter);
     return 0;
 }

@@ -1,0 +1,194 @@
+/* compare MB ROUNDS: an earlier build of the finder and today's, on every text and every code; prints two tables.
+ *
+ * Where a loop begins in a cache line moves its speed by up to a third, and a function may begin at any multiple of 16 bytes. So bench/compare links
+ * each build four times, once for each such place in a line of 64, and the fastest copy counts. */
+#include <math.h>
+#include <stdint.h>
+#include <stdio.h>
+#include <stdlib.h>
+
+#include "figures.h"
+#include "process.h"
+#include "tasks.h"
+
+enum { BEFORE, AFTER, BUILDS };
+enum {
+    COPIES = 4,       /* of a build */
+    LINE = 64,        /* bytes to a cache line */
+    PREPARED = 20000, /* bytes of a code to a timing of preparing */
+    MORE = 10,        /* rounds of preparing to one of feeding: they are shorter */
+};
+
+/* The copies of an entry, named as bench/compare names them. */
+#define COPIES_OF(build, entry) build##_0_##entry, build##_1_##entry, build##_2_##entry, build##_3_##entry
+
+preparer COPIES_OF(before, speed_prepare), COPIES_OF(after, speed_prepare);
+feeder COPIES_OF(before, speed_feed), COPIES_OF(after, speed_feed);
+
+static preparer *const preparers[BUILDS][COPIES] = {{COPIES_OF(before, speed_prepare)}, {COPIES_OF(after, speed_prepare)}};
+static feeder *const feeders[BUILDS][COPIES] = {{COPIES_OF(before, speed_feed)}, {COPIES_OF(after, speed_feed)}};
+
+static struct search s;
+
+struct table {
+    int rounds;
+    double *of_rounds; /* room for a ratio of each */
+    struct ratios ratios;
+};
+
+/* Nanoseconds for each byte, of one copy of a build. */
+typedef double timer(int build, int copy);
+
+static double time_feeding(int build, int copy)
+{
+    double start = cpu_now();
+
+    feed_text(feeders[build][copy], &s, 0);
+    return (cpu_now() - start) / (double)s.n * 1e9;
+}
+
+/* Codes of all shapes and of one length. */
+static uint8_t codes[SHAPES][LONGEST_CODE];
+static size_t m;
+
+static double time_preparing(int build, int copy)
+{
+    double sum = 0;
+
+    for (int k = 0; k < SHAPES; k++)
+        sum += preparing_time(preparers[build][copy], codes[k], m, PREPARED / m);
+    return sum / (double)(SHAPES * m);
+}
+
+/* Whether the copies begin at different places in a line. */
+static int spread(const uintptr_t *starts)
+{
+    for (int k = 0; k < COPIES; k++)
+        for (int l = 0; l < k; l++)
+            if (starts[k] % LINE == starts[l] % LINE)
+                return 0;
+    return 1;
+}
+
+static void check_copies(void)
+{
+    for (int b = 0; b < BUILDS; b++) {
+        uintptr_t preparing[COPIES], feeding[COPIES];
+
+        for (int k = 0; k < COPIES; k++) {
+            preparing[k] = (uintptr_t)preparers[b][k];
+            feeding[k] = (uintptr_t)feeders[b][k];
+        }
+        if (!spread(preparing) || !spread(feeding))
+            stop("two copies of a build begin at the same place in a cache line", "");
+    }
+}
+
+/* Both builds must make the same sheet of a code. */
+static void agree_on_sheet(const uint8_t *code, size_t length, const char *name)
+{
+    if (!same_sheets(preparers[BEFORE][0], preparers[AFTER][0], code, length))
+        stop("another sheet than before, of the code", name);
+}
+
+/* Both must find the same places with the same comparisons, and answer the same watches and endings. */
+static void agree_on_text(const char *name)
+{
+    struct found before = feed_text(feeders[BEFORE][0], &s, 1);
+    struct found after = feed_text(feeders[AFTER][0], &s, 1);
+
+    if (after.hits != before.hits || after.check != before.check)
+        stop("other places than before, on the text", name);
+    if (after.compares != before.compares)
+        stop("other comparisons than before, on the text", name);
+    if (after.answers != before.answers)
+        stop("other watches or endings than before, on the text", name);
+}
+
+/* Prints a row: the best times, and the median of the rounds' ratios. In a round each copy runs once, the two builds in turn; which of them is first
+ * changes from copy to copy and from round to round. */
+static void add_row(struct table *t, const char *name, const char *code_name, timer *time)
+{
+    double best[BUILDS] = {HUGE_VAL, HUGE_VAL};
+
+    for (int r = 0; r < t->rounds; r++) {
+        double fastest[BUILDS] = {HUGE_VAL, HUGE_VAL};
+
+        for (int k = 0; k < COPIES * BUILDS; k++) {
+            int copy = k / BUILDS;
+            int build = (k + copy + r) % BUILDS;
+            fastest[build] = fmin(fastest[build], time(build, copy));
+        }
+        for (int b = 0; b < BUILDS; b++)
+            best[b] = fmin(best[b], fastest[b]);
+        t->of_rounds[r] = fastest[BEFORE] / fastest[AFTER];
+    }
+    double ratio = median(t->of_rounds, t->rounds);
+    printf("| %-19s | %-17s | %7.3f | %7.3f | %12.3f |\n", name, code_name, best[BEFORE], best[AFTER], ratio);
+    fflush(stdout);
+    add_ratio(&t->ratios, ratio);
+}
+
+static void print_head(const char *title, const char *name, const char *code_name)
+{
+    printf("\n## %s\n\n| %-19s | %-17s | %7s | %7s | %12s |\n|---|---|--:|--:|--:|\n", title, name, code_name, "before", "after", "before/after");
+}
+
+static void print_end(const struct table *t)
+{
+    printf("\nbefore/after: smallest %.3f (aim 0.97), geometric mean %.3f.\n", t->ratios.smallest, mean_ratio(&t->ratios));
+}
+
+static void compare_feeding(struct table t)
+{
+    print_head("Feeding", "Text", "Code");
+    for (const struct job *j = jobs; j->make; j++) {
+        set_up(&s, j, preparers[AFTER][0]);
+        agree_on_sheet(s.code, s.m, j->code_name);
+        agree_on_text(j->text_name);
+        add_row(&t, j->text_name, j->code_name, time_feeding);
+    }
+    print_end(&t);
+}
+
+static void compare_preparing(struct table t)
+{
+    char length[32];
+
+    t.rounds *= MORE;
+    print_head("Preparing", "Codes", "m");
+    for (int l = 0; l < LENGTHS; l++) {
+        m = lengths[l];
+        for (int k = 0; k < SHAPES; k++) {
+            shapes[k].make(codes[k], m);
+            agree_on_sheet(codes[k], m, shapes[k].name);
+        }
+        snprintf(length, sizeof length, "%zu", m);
+        add_row(&t, "one of each shape", length, time_preparing);
+    }
+    print_end(&t);
+}
+
+int main(int argc, char **argv)
+{
+    struct table t = {0};
+
+    if (argc != 3)
+        stop("usage: compare MB ROUNDS", "");
+    take_memory(&s, argv[1]);
+    t.rounds = atoi(argv[2]);
+    if (t.rounds < 1)
+        stop("1 round or more", "");
+    t.of_rounds = malloc((size_t)t.rounds * MORE * sizeof *t.of_rounds);
+    if (!t.of_rounds)
+        stop("no memory for the rounds", "");
+    check_copies();
+
+    compare_feeding(t);
+    compare_preparing(t);
+    printf("\nNanoseconds of processor time for each byte of a text (%.0f MB, pieces of %d bytes, a list of %d places) or of a code, best of %d rounds (codes: %d).\n"
+           "before/after: the median of the rounds; over 1 it is faster now. In a round the fastest of a build's %d copies counts.\n"
+           "Sheets, places, comparisons and watches are the same before and after.\n",
+           (double)s.n / 1e6, PIECE, LIST, t.rounds, t.rounds * MORE, COPIES);
+    return 0;
+}
