@@ -9,13 +9,14 @@ use lib.Dec.{eqb}
 use lib.ListN.{length, take}
 use lib.Seq.{length-take-le}
 use Rattle.words.proofs.Tests.{by-le, and-right}
+use Rattle.runs.specs.Calls.{unless-refused}
 use Rattle.codes.specs.Sheet.{named}
 use Rattle.finder.specs.declared.Watch.{Watch}
 use Rattle.finder.specs.Feed.{Fed, feed}
 use Rattle.finder.specs.Entry.{feed-refusal}
 use Rattle.find.specs.declared.Turn.{Turn}
 use Rattle.find.specs.declared.Progress.{Progress}
-use Rattle.find.specs.Printed.{piece-size, last, piece-form, piece-watch, Piece-taken}
+use Rattle.find.specs.Printed.{piece-size, last, piece-form, Piece-taken}
 use Rattle.find.specs.Output.{cut, text-output}
 use Rattle.find.specs.Receipts.{Came, Ended, Sent, Told, Broken, unmoved, Moved, May-follow}
 use Rattle.find.specs.Program.{Some-came, Brought, Sent-or-told, Rises, Piece-sent, Piece-printed, Search-on, Search-stopped, Searched}
@@ -73,7 +74,7 @@ module _ (s : List ℕ) (x : Watch) (c : List ℕ) where
   more = eqb n 0 && not (last c)
 
   piece-then : (rest : List ℕ) → length c ≤ piece-size → (length c < piece-size → rest ≡ []) →
-      text-output s (cut (c ++ rest)) x ≡ piece-form n (last c) f ++ cond more (text-output s (cut rest) (piece-watch n f x)) []
+      text-output s (cut (c ++ rest)) x ≡ piece-form n (last c) f ++ cond more (text-output s (cut rest) (unless-refused n f x .after)) []
   unfolding text-output
   piece-then rest h e =
       by-le piece-size (length c)

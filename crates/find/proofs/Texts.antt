@@ -1,4 +1,4 @@
--- What is printed for a whole text: piece by piece, along the simulation of finder's Runs.antt. Assumes nothing.
+-- What is printed for a whole text: piece by piece, each with the watch of what came before it. Assumes nothing.
 use mathlib.Core.Path.{_≡_, refl, sym, ap, _∙_}
 use mathlib.Core.Bool.{Bool, true, false, not, cond}
 use mathlib.Core.List.{List, [], _∷_, _++_, append-nil, append-assoc}
@@ -9,43 +9,32 @@ use lib.Dec.{eqb}
 use lib.ListN.{length, take, drop, length-append, length-drop, take-append-drop}
 use lib.Seq.{length-take-le, take-all, take-append-seam, drop-append-seam}
 use Rattle.words.proofs.Tests.{by-le}
-use Rattle.automaton.specs.Arrows.{stepped}
+use Rattle.runs.specs.Reading.{longest-text, over}
+use Rattle.runs.specs.Calls.{Call, unless-refused}
+use Rattle.runs.proofs.Over.{over-nil, over-append}
+use Rattle.runs.proofs.Feeds.{takes-whole}
 use Rattle.codes.specs.Refusals.{refused-if, first-refusal}
 use Rattle.codes.specs.Codes.{accepted}
 use Rattle.codes.specs.Sheet.{sheet}
-use Rattle.codes.proofs.Refusals.{accepted-bounds}
 use Rattle.codes.proofs.Sheets.{sheet-named}
 use Rattle.finder.specs.declared.Watch.{Watch}
-use Rattle.finder.specs.Feed.{longest-text, opened, reported, with-byte, Fed, fed-more, feed}
-use Rattle.finder.specs.Machine.{Machine, Call, call-refusal, machine-call}
-use Rattle.finder.specs.Runs.{called}
+use Rattle.finder.specs.Feed.{opened, feeder, feed}
+use Rattle.finder.specs.Machine.{found-after, call-refusal}
+use Rattle.finder.specs.Texts.{places, watch-of}
 use Rattle.finder.specs.Entry.{feed-refusal}
-use Rattle.finder.proofs.Places.{place-one}
-use Rattle.finder.proofs.Runs.{Simulates, simulates-start, simulates-call}
-use Rattle.finder.proofs.Promises.{Kept, kept-start, kept-byte, counted}
+use Rattle.finder.proofs.Places.{reported-one}
+use Rattle.finder.proofs.Texts.{opened-of, piece-read}
 use Rattle.finder.proofs.Entries.{same-refusal}
 use Rattle.forms.specs.Text.{place-form, place-forms, refused-form}
-use Rattle.find.specs.Printed.{piece-size, last, end-of, piece-form, piece-watch}
+use Rattle.find.specs.Printed.{piece-size, last, end-of, piece-form}
 use Rattle.find.specs.Output.{pieces, cut, text-output}
-use Rattle.find.specs.Promise.{places, search-form}
+use Rattle.find.specs.Promise.{search-form}
 
 -- PLACES printed at once, or the first ones and then the others
 forms-append : (ps qs : List ℕ) → place-forms (ps ++ qs) ≡ place-forms ps ++ place-forms qs
 unfolding place-forms
 forms-append [] qs = refl
 forms-append (p ∷ ps) qs = rw (forms-append ps qs) (sym (append-assoc (place-form p) (place-forms ps) (place-forms qs)))
-
--- A PIECE is fed whole where the list has a place for each of its bytes
-reported-few : (w : List ℕ) (c : ℕ) (x : Watch) → length (reported w c x) ≤ 1
-unfolding reported
-reported-few w c x = place-one (eqb (stepped w (x .state) c .state) (length w)) (suc (x .taken) - length w)
-
-feed-whole : (w cs : List ℕ) (k : ℕ) (x : Watch) → length cs ≤ k → feed w cs k x .taken ≡ length cs
-unfolding feed fed-more
-feed-whole w [] k x h = refl
-feed-whole w (c ∷ cs) zero x h = absurd (omega arith)
-feed-whole w (c ∷ cs) (suc k) x h =
-    let rest = feed-whole w cs (suc k - length (reported w c x)) (with-byte w c x) (omega (arith, reported-few w c x)) in omega arith
 
 -- it is refused, with 7, only where the text would be too long
 abbrev call : (piece : List ℕ) → Call
@@ -58,10 +47,6 @@ call-taken c n h = rw (le-ltb longest-text (n + length c) h)
 call-over : (c : List ℕ) (n : ℕ) → longest-text < n + length c → call-refusal (call c) n ≡ 7
 unfolding call-refusal first-refusal refused-if
 call-over c n h = rw (lt-ltb longest-text (n + length c) h)
-
-call-feeds : (w : List ℕ) (c : Call) (x : Watch) → call-refusal c (x .taken) ≡ 0 → called w c x ≡ feed w (c .piece) (c .room) x
-unfolding called
-call-feeds w c x e = rw e
 
 -- THE PIECES of a text, enough of them: the last one, or a full one and the others
 pieces-last : (k : ℕ) (ts : List ℕ) → length ts < piece-size → pieces (suc k) ts ≡ ts ∷ []
@@ -107,84 +92,80 @@ module _ (w rest : List ℕ) (good : accepted w ≡ true) where
   abbrev buffer : List ℕ
   buffer = sheet w ++ rest
 
+  -- the places of a text, after what stands before it
+  abbrev places-after : (before text : List ℕ) → List ℕ
+  places-after bs ts = over (found-after w) bs ts
+
   -- ONE PIECE c after the bytes bs
-  module _ (c : List ℕ) {x : Watch} {ps bs : List ℕ} {m : Machine} (s : Simulates w (Kept w) x ps bs m) where
-    abbrev f : Fed
-    f = feed w c piece-size x
+  module _ (c bs : List ℕ) where
+    refusal-is : feed-refusal buffer (watch-of w bs) (length c) piece-size ≡ call-refusal (call c) (length bs)
+    refusal-is = same-refusal w rest good (call c) bs
 
-    taken-is : x .taken ≡ length bs
-    taken-is = s .bytes ∙ ap length (sym (s .text))
-
-    refusal-is : feed-refusal buffer x (length c) piece-size ≡ call-refusal (call c) (length bs)
-    refusal-is =
-        same-refusal w rest good x (call c) (counted (accepted-bounds w good .0) s .fits) ∙ ap (call-refusal (call c)) taken-is
-
-    piece-over : (cs : List (List ℕ)) → longest-text < length bs + length c → text-output buffer (c ∷ cs) x ≡ refused-form 7
+    piece-over : (cs : List (List ℕ)) → longest-text < length bs + length c → text-output buffer (c ∷ cs) (watch-of w bs) ≡ refused-form 7
     unfolding text-output piece-form
     piece-over cs h = rw (refusal-is, call-over c (length bs) h) (append-nil (refused-form 7))
 
-    module _ (fits : length bs + length c ≤ longest-text) where
-      piece-printed : (cs : List (List ℕ)) →
-          text-output buffer (c ∷ cs) x ≡ place-forms (f .places) ++ cond (last c) (end-of (f .after)) (text-output buffer cs (f .after))
-      unfolding text-output piece-form piece-watch
-      piece-printed cs =
-          rw (refusal-is, call-taken c (length bs) fits, sheet-named)
-          (end-or-more (last c) (place-forms (f .places)) (end-of (f .after)) (text-output buffer cs (f .after)))
+    piece-whole : length c ≤ piece-size →
+        let f = feed w c piece-size (watch-of w bs) in (f .after ≡ watch-of w (bs ++ c)) × (f .told ≡ places-after bs c)
+    piece-whole h =
+        let n : ℕ = feed w c piece-size (watch-of w bs) .taken in
+        let all : take n c ≡ c = take-all n c (omega (arith, takes-whole (feeder w) (reported-one w) refl c piece-size (watch-of w bs) h)) in
+        let r = rw all at (piece-read w c piece-size bs) in
+        (r .state, r .tells)
 
-      piece-fed : length c ≤ piece-size → Simulates w (Kept w) (f .after) (ps ++ f .places) (bs ++ c) (machine-call w (call c) m)
-      piece-fed h =
-          let one : called w (call c) x ≡ f = call-feeds w (call c) x (call-taken c (x .taken) (omega (arith, taken-is))) in
-          let whole : take (f .taken) c ≡ c = take-all (f .taken) c (omega (arith, feed-whole w c piece-size x h)) in
-          rw (one, whole) at (simulates-call w (Kept w) (kept-byte w) (call c) s)
+    piece-printed : length c ≤ piece-size → length bs + length c ≤ longest-text → (cs : List (List ℕ)) →
+        text-output buffer (c ∷ cs) (watch-of w bs)
+        ≡ place-forms (places-after bs c) ++ cond (last c) (end-of (watch-of w (bs ++ c))) (text-output buffer cs (watch-of w (bs ++ c)))
+    unfolding text-output piece-form unless-refused
+    piece-printed h fits cs =
+        let r = piece-whole h in
+        rw (refusal-is, call-taken c (length bs) fits, sheet-named, r .0, r .1)
+        (end-or-more (last c) (place-forms (places-after bs c)) (end-of (watch-of w (bs ++ c))) (text-output buffer cs (watch-of w (bs ++ c))))
 
-  -- FULL PIECES ts, then the text us: what is printed follows from what is printed where the simulation has come to us
-  full-pieces : (j : ℕ) (ts us printed : List ℕ) {x : Watch} {ps bs : List ℕ} {m : Machine} → Simulates w (Kept w) x ps bs m →
-      length ts ≡ piece-size * j → length bs + length ts ≤ longest-text →
-      ((y : Watch) (qs : List ℕ) (n : Machine) → Simulates w (Kept w) y qs (bs ++ ts) n →
-      place-forms qs ++ text-output buffer (cut us) y ≡ printed) →
-      place-forms ps ++ text-output buffer (cut (ts ++ us)) x ≡ printed
-  full-pieces zero [] us printed {x} {ps} {bs} {m} s full fits done = done x ps m (rw append-nil s)
-  full-pieces zero (t ∷ ts) us printed s full fits done = absurd (omega arith)
-  full-pieces (suc j) ts us printed {bs = bs} s full fits done =
+  -- places printed for one text and then for another
+  forms-after : (bs ts us more : List ℕ) →
+      place-forms (places-after bs ts) ++ (place-forms (places-after (bs ++ ts) us) ++ more) ≡ place-forms (places-after bs (ts ++ us)) ++ more
+  forms-after bs ts us more =
+      rw (over-append (found-after w) bs ts us, forms-append)
+      (sym (append-assoc (place-forms (places-after bs ts)) (place-forms (places-after (bs ++ ts) us)) more))
+
+  -- FULL PIECES ts, then the text us
+  full-pieces : (j : ℕ) (ts us bs : List ℕ) → length ts ≡ piece-size * j → length bs + length ts ≤ longest-text →
+      text-output buffer (cut (ts ++ us)) (watch-of w bs)
+      ≡ place-forms (places-after bs ts) ++ text-output buffer (cut us) (watch-of w (bs ++ ts))
+  unfolding place-forms
+  full-pieces zero [] us bs full fits = rw (over-nil (found-after w) bs, append-nil bs) refl
+  full-pieces zero (t ∷ ts) us bs full fits = absurd (omega arith)
+  full-pieces (suc j) ts us bs full fits =
       let c : List ℕ = take piece-size ts in
       let d : List ℕ = drop piece-size ts in
       let size : length c ≡ piece-size = length-take-le piece-size ts (omega arith) in
       let left : length d ≡ length ts - piece-size = length-drop piece-size ts in
       let whole : c ++ d ≡ ts = take-append-drop piece-size ts in
-      let fit : length bs + length c ≤ longest-text = omega arith in
       let split : ts ++ us ≡ c ++ (d ++ us) = ap (λ (l : List ℕ). l ++ us) (sym whole) ∙ append-assoc c d us in
       let first : cut (ts ++ us) ≡ c ∷ cut (d ++ us) = ap cut split ∙ cut-more c (d ++ us) size in
-      rw (first, piece-printed c s fit (cut (d ++ us)), full-last c size, ← append-assoc, ← forms-append)
-      (full-pieces j d us printed (piece-fed c s fit (omega arith)) (omega arith) (omega (arith, length-append bs c))
-      (λ y qs n u. done y qs n (rw (append-assoc, whole) at u)))
-
-  -- what the simulation tells of all that was read
-  all-places : {x : Watch} {ps bs : List ℕ} {m : Machine} → Simulates w (Kept w) x ps bs m → ps ≡ places w bs
-  all-places s = s .told ∙ rw (s .text) (s .keeps .right)
-
-  all-told : {x : Watch} {ps bs : List ℕ} {m : Machine} → Simulates w (Kept w) x ps bs m → place-forms ps ++ end-of x ≡ search-form w bs
-  all-told s = rw (s .bytes, s .hits, s .compares, s .told, s .text, s .keeps .adds, s .keeps .right)
+      let more = full-pieces j d us (bs ++ c) (omega arith) (omega (arith, length-append bs c)) in
+      rw (first, piece-printed c bs (omega arith) (omega arith) (cut (d ++ us)), full-last c size)
+      (ap (λ (l : List ℕ). place-forms (places-after bs c) ++ l) more
+      ∙ forms-after bs c d (text-output buffer (cut us) (watch-of w (bs ++ c ++ d)))
+      ∙ rw (append-assoc bs c d, whole) refl)
 
   -- THE LAST PIECE
-  last-piece : (us : List ℕ) {x : Watch} {ps bs : List ℕ} {m : Machine} → Simulates w (Kept w) x ps bs m →
-      length us < piece-size → length bs + length us ≤ longest-text →
-      place-forms ps ++ text-output buffer (cut us) x ≡ search-form w (bs ++ us)
+  last-piece : (us bs : List ℕ) → length us < piece-size → length bs + length us ≤ longest-text →
+      text-output buffer (cut us) (watch-of w bs) ≡ place-forms (places-after bs us) ++ end-of (watch-of w (bs ++ us))
   unfolding last
-  last-piece us s h fits =
-      rw (cut-last us h, piece-printed us s fits [], lt-ltb (length us) piece-size h, ← append-assoc, ← forms-append)
-      (all-told (piece-fed us s fits (omega arith)))
+  last-piece us bs h fits = rw (cut-last us h, piece-printed us bs (omega arith) fits [], lt-ltb (length us) piece-size h) refl
 
   -- A WHOLE TEXT: its first j pieces are full
-  from-opened : (j : ℕ) (ts printed : List ℕ) → piece-size * j ≤ length ts → piece-size * j ≤ longest-text →
-      ((y : Watch) (qs : List ℕ) (m : Machine) → Simulates w (Kept w) y qs (take (piece-size * j) ts) m →
-      place-forms qs ++ text-output buffer (cut (drop (piece-size * j) ts)) y ≡ printed) →
-      text-output buffer (cut ts) opened ≡ printed
-  unfolding place-forms
-  from-opened j ts printed h fits done =
+  from-opened : (j : ℕ) (ts : List ℕ) → piece-size * j ≤ length ts → piece-size * j ≤ longest-text →
+      let n = piece-size * j in
+      text-output buffer (cut ts) opened
+      ≡ place-forms (places w (take n ts)) ++ text-output buffer (cut (drop n ts)) (watch-of w (take n ts))
+  from-opened j ts h fits =
       let n : ℕ = piece-size * j in
       let size : length (take n ts) ≡ n = length-take-le n ts h in
-      rw (take-append-drop n ts) at
-      (full-pieces j (take n ts) (drop n ts) printed (simulates-start w (Kept w) (kept-start w)) size (omega arith) done)
+      rw (← opened-of w, take-append-drop n ts) at
+      (full-pieces j (take n ts) (drop n ts) [] size (omega arith))
 
   -- a text that a watch takes, and one of which it takes j pieces and not another
   pub text-right : (ts : List ℕ) → length ts ≤ longest-text → text-output buffer (cut ts) opened ≡ search-form w ts
@@ -193,12 +174,15 @@ module _ (w rest : List ℕ) (good : accepted w ≡ true) where
       let n : ℕ = piece-size * j in
       let size : length (take n ts) ≡ n = length-take-le n ts (omega arith) in
       let left : length (drop n ts) ≡ length ts - n = length-drop n ts in
-      from-opened j ts (search-form w ts) (omega arith) (omega arith)
-      (λ y qs m s. rw (take-append-drop n ts) at (last-piece (drop n ts) s (omega arith) (omega arith)))
+      let whole : take n ts ++ drop n ts ≡ ts = take-append-drop n ts in
+      from-opened j ts (omega arith) (omega arith)
+      ∙ ap (λ (l : List ℕ). place-forms (places w (take n ts)) ++ l) (last-piece (drop n ts) (take n ts) (omega arith) (omega arith))
+      ∙ forms-after [] (take n ts) (drop n ts) (end-of (watch-of w (take n ts ++ drop n ts)))
+      ∙ rw whole refl
 
   pub text-long : (j : ℕ) (ts : List ℕ) → piece-size * j ≤ longest-text → longest-text < piece-size * suc j → piece-size * suc j ≤ length ts →
       text-output buffer (cut ts) opened ≡ place-forms (places w (take (piece-size * j) ts)) ++ refused-form 7
-  text-long j ts fits over h =
+  text-long j ts fits over-long h =
       let n : ℕ = piece-size * j in
       let us : List ℕ = drop n ts in
       let c : List ℕ = take piece-size us in
@@ -206,5 +190,4 @@ module _ (w rest : List ℕ) (good : accepted w ≡ true) where
       let left : length us ≡ length ts - n = length-drop n ts in
       let full : length c ≡ piece-size = length-take-le piece-size us (omega arith) in
       let first : cut us ≡ c ∷ cut (drop piece-size us) = ap cut (sym (take-append-drop piece-size us)) ∙ cut-more c (drop piece-size us) full in
-      from-opened j ts (place-forms (places w (take n ts)) ++ refused-form 7) (omega arith) fits
-      (λ y qs m s. rw (first, piece-over c s (cut (drop piece-size us)) (omega arith), all-places s))
+      from-opened j ts (omega arith) fits ∙ rw (first, piece-over c (take n ts) (cut (drop piece-size us)) (omega arith)) refl

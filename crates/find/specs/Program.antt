@@ -5,6 +5,7 @@ use mathlib.Core.List.{List, [], _++_}
 use Prim.Native.Nat.{ℕ, _^_, _≤_, _<_}
 use lib.Dec.{eqb}
 use lib.ListN.{length, take}
+use Rattle.runs.specs.Calls.{unless-refused}
 use Rattle.codes.specs.Sheet.{named}
 use Rattle.finder.specs.declared.Watch.{Watch}
 use Rattle.finder.specs.Feed.{Fed, feed}
@@ -17,7 +18,7 @@ use Rattle.find.specs.declared.system.Got.the-variants.{Bytes, Failed}
 use Rattle.find.specs.declared.Start.{Start}
 use Rattle.find.specs.declared.Progress.{Progress}
 use Rattle.find.specs.Receipts.{Came, Ended, Sent, Told, Broken, Moved, May-follow}
-use Rattle.find.specs.Printed.{last, piece-form, piece-watch}
+use Rattle.find.specs.Printed.{last, piece-form}
 use Rattle.find.specs.Output.{cut, text-output, output}
 
 -- either something is done, or standard error was told that the search is not complete, and something else holds
@@ -69,7 +70,7 @@ pub record Line-read (line : Line) (kept : List ℕ) (at : ℕ) (r : Start) (kep
 -- A PIECE was taken from watch x on, and what is to be printed for it was sent
 pub record Piece-sent (x : Watch) (piece : List ℕ) (refusal : ℕ) (f : Fed) (from : ℕ) (r : Progress) (to : ℕ) : Type 0 where
   pub sent : Moved Sent from to (piece-form refusal (last piece) f)
-  pub watch : r .watch ≡ piece-watch refusal f x
+  pub watch : r .watch ≡ unless-refused refusal f x .after
   pub more : r .more ≡ eqb refusal 0 && not (last piece)
 
 pub record Piece-printed (sheet : List ℕ) (x : Watch) (piece : List ℕ) (k from : ℕ) (r : Progress) (to : ℕ) : Type 0 where

@@ -7,16 +7,16 @@ ghost use mathlib.Core.Path.{_≡_};
 ghost use mathlib.Core.Bool.{true, false};
 ghost use Prim.Native.Nat.{_+_, _*_, _≤_};
 ghost use lib.ListN.{length, take};
-ghost use Rattle.finder.specs.Entry.{ending-refusal};
+ghost use Rattle.runs.specs.Reading.{ending-refusal};
 ghost use Rattle.finder.specs.Feed.{opened};
 ghost use Rattle.forms.specs.Line.{goes-on};
 ghost use Rattle.forms.specs.Text.{refused-form};
 ghost use Rattle.find.specs.Printed.{prepared-refusal, prepared-sheet, line-refusal, line-sheet, room, Piece-taken};
 ghost use Rattle.find.specs.Program.{Rises, Got-into, Line-read, Sent-or-told, Piece-printed, Searched, Ran};
 use codes::Answer;
-use finder::Ending;
 use finder::Watch;
 use forms::Line;
+use runs::Ending;
 use system::Got;
 
 // The bytes of a piece; fewer make the last one.

@@ -1,120 +1,141 @@
--- A run of the entry point is a run of calls: on the sheet of an accepted code, with the watch of a run, only 6 and 7 refuse. Assumes nothing.
-use mathlib.Core.Path.{_≡_, refl, _∙_}
-use mathlib.Core.Bool.{true, cond}
-use mathlib.Core.List.{List, [], _∷_, _++_, append-nil, append-assoc}
-use Prim.Native.Nat.{ℕ, zero, suc, _≤_}
-use lib.Dec.{eqb, eqb·suc-zero}
-use lib.ListN.{length, take, drop}
-use lib.Seq.{take-at}
+-- A run of the entry point is a run of plain calls: on the sheet of an accepted code, with the watch of a text, only 6 and 7 refuse. Assumes nothing.
+use mathlib.Core.Path.{_≡_, refl, sym, ap, _∙_}
+use mathlib.Core.Bool.{true}
+use mathlib.Core.List.{List, [], _∷_, _++_, map}
+use Prim.Native.Nat.{ℕ, zero, suc, _≤_, zero-le}
+use native.Mathlib.Omega.{arith}
+use lib.Dec.{eqb·suc-zero}
+use lib.ListN.{length, take, drop, length-append}
+use lib.Seq.{take-append-seam}
+use Rattle.runs.specs.Reading.{ending-refusal}
+use Rattle.runs.specs.Calls.{Outcome, run, Call, unless-refused, called}
+use Rattle.runs.proofs.Feeds.{ending-none}
+use Rattle.runs.proofs.Runs.{run-snoc}
 use Rattle.codes.specs.Refusals.{refused-if, first-refusal}
 use Rattle.codes.specs.Codes.{accepted}
-use Rattle.codes.specs.Sheet.{sheet, in-front}
+use Rattle.codes.specs.Sheet.{sheet, named, in-front}
 use Rattle.codes.specs.Promise.{Prepare-makes}
 use Rattle.codes.proofs.Refusals.{accepted-bounds}
 use Rattle.codes.proofs.Sheets.{sheet-named, sheet-begins}
 use Rattle.codes.proofs.Entries.{prepare-makes}
 use Rattle.finder.specs.declared.Watch.{Watch}
-use Rattle.finder.specs.Feed.{opened, fit, Fed, feed, ending}
-use Rattle.finder.specs.Machine.{Machine, machine-start, Call, call-refusal, machine-call, machine-after}
-use Rattle.finder.specs.Runs.{called}
-use Rattle.finder.specs.Entry.{ending-refusal, feed-refusal, answer-by, feed-answer, feed-places, Feed-says, Feed-call, Run-of, plain, plain-calls, last-watch, written-places, taken-bytes, Refused-right}
-use Rattle.finder.specs.Promise.{after, places-in, Behind-unread, Entries-count, Prepared-count, Entries-alike}
-use Rattle.finder.proofs.Endings.{ending-none}
+use Rattle.finder.specs.declared.Feeding.{Feeding}
+use Rattle.finder.specs.Feed.{opened, Fed, feed}
+use Rattle.finder.specs.Machine.{machine-start, call-refusal, machine-call, machine-refusals}
+use Rattle.finder.specs.Texts.{places, watch-of}
+use Rattle.finder.specs.Entry.{Lent, Feed-call, feed-refusal, call-by, feed-call, Feed-says, feeding, feed-run, written, refused, plain}
+use Rattle.finder.specs.Promise.{Behind-unread, Runs-grow, Entries-counted, Entries-count, Prepared-count, Entries-alike}
 use Rattle.finder.proofs.Places.{places-stand-in}
-use Rattle.finder.proofs.Runs.{Simulates, simulates-start, simulates-call}
-use Rattle.finder.proofs.Promises.{Kept, kept-start, kept-byte, counted, alike}
+use Rattle.finder.proofs.Texts.{machine-of, opened-of, start-of, Read, call-read, machine-call-read}
+use Rattle.finder.proofs.Promises.{counted-of, Opened, from-opened, counted, watch-is, text-is, told-is, found-is, alike}
 
--- ONE CALL of the entry point is one call of a run
-record As-called (w : List ℕ) (x : Watch) (e : Feed-call) : Type 0 where
-  watch : e .answer .watch ≡ called w (plain e) x .after
-  places : take (e .answer .written) (e .list-after) ≡ called w (plain e) x .places
-  taken : e .answer .taken ≡ called w (plain e) x .taken
-  refusal : ending-refusal (e .answer .ending) ≡ call-refusal (plain e) (x .taken)
+-- ONE CALL of the entry point, by its refusal: it has answered and left what was fed
+pub record As-fed (n : ℕ) (f : Fed) (e : Feed-call) : Type 0 where
+  pub watch : e .answer .watch ≡ f .after
+  pub taken : e .answer .taken ≡ f .taken
+  pub told : take (e .answer .written) (e .left .list) ≡ f .told
+  pub fits : e .answer .written ≤ length (e .left .list)
+  pub refusal : ending-refusal (e .answer .ending) ≡ n
 
-in-front-take : (ps a : List ℕ) → take (length ps) (in-front ps a) ≡ ps
-unfolding in-front
-in-front-take ps a = take-at ps (drop (length ps) a) (length ps) refl
-
-as-called : (w : List ℕ) (x : Watch) (e : Feed-call) (n : ℕ) → call-refusal (plain e) (x .taken) ≡ n →
-    e .answer ≡ answer-by n w (e .piece) (length (e .list)) x →
-    e .list-after ≡ cond (eqb n 0) (in-front (feed w (e .piece) (length (e .list)) x .places) (e .list)) (e .list) → As-called w x e
-unfolding called answer-by
-as-called w x e zero r a l =
-    let f : Fed = feed w (e .piece) (length (e .list)) x in
+as-fed : (n : ℕ) (w : List ℕ) (x : Watch) (l : Lent) → As-fed n (unless-refused n (feed w (l .piece) (length (l .list)) x) x) (call-by n w x l)
+unfolding unless-refused call-by in-front
+as-fed zero w x l =
+    let f : Fed = feed w (l .piece) (length (l .list)) x in
+    let rest : List ℕ = drop (length (f .told)) (l .list) in
     record {
-      watch = rw (a, r);
-      places = rw (a, l, r) (in-front-take (f .places) (e .list));
-      taken = rw (a, r);
-      refusal = rw (a, r) (ending-none (e .piece) (length (e .list)) f);
+      watch = refl;
+      taken = refl;
+      told = take-append-seam (f .told) rest;
+      fits = omega (arith, length-append (f .told) rest);
+      refusal = ending-none 1 (l .piece) (length (l .list)) f;
     }
-as-called w x e (suc n) r a l =
-    record { watch = rw (a, r, eqb·suc-zero); places = rw (a, r, eqb·suc-zero); taken = rw (a, r, eqb·suc-zero); refusal = rw (a, r) }
+as-fed (suc n) w x l = simp eqb·suc-zero (record { watch = refl; taken = refl; told = refl; fits = zero-le; refusal = refl })
+
+pub says-fed : {bs : List ℕ} {x : Watch} {l : Lent} {r : Feeding} {a : Lent} → Feed-says bs x l r a →
+    let n = feed-refusal bs x (length (l .piece)) (length (l .list)) in
+    As-fed n (unless-refused n (feed (named bs) (l .piece) (length (l .list)) x) x) (record { answer = r; left = a })
+unfolding feed-call
+says-fed {bs} {x} {l} s = rw (s .is) (as-fed (feed-refusal bs x (length (l .piece)) (length (l .list))) (named bs) x l)
+
+-- A CALLER'S OWN CALLS
+pub runs-grow : Runs-grow
+unfolding Runs-grow
+runs-grow f bs ls l r a s =
+    let q = feed-run f bs ls in
+    run-snoc (feeding f bs) ls l opened
+    ∙ ap
+    {B = Outcome Watch ℕ}
+    (λ (e : Feed-call).
+    record { after = e .answer .watch; bytes = q .bytes ++ take (e .answer .taken) (l .piece); told = q .told ++ f e })
+    (sym (s .is))
 
 module _ (w rest : List ℕ) (good : accepted w ≡ true) where
   -- 4 and 5 never come up
-  pub same-refusal : (x : Watch) (c : Call) → fit (length w) x ≡ true →
-      feed-refusal (sheet w ++ rest) x (length (c .piece)) (c .room) ≡ call-refusal c (x .taken)
+  pub same-refusal : (c : Call) (ts : List ℕ) →
+      feed-refusal (sheet w ++ rest) (watch-of w ts) (length (c .piece)) (c .room) ≡ call-refusal c (length ts)
   unfolding feed-refusal call-refusal first-refusal refused-if
-  same-refusal x c fits = rw (sheet-begins w rest good, sheet-named, fits)
+  same-refusal c ts = rw (sheet-begins w rest good, sheet-named, counted-of w ts (accepted-bounds w good .0) .fits)
 
-  says-called : (x : Watch) (e : Feed-call) → fit (length w) x ≡ true →
-      Feed-says (sheet w ++ rest) x (e .piece) (e .answer) (e .list) (e .list-after) → As-called w x e
-  unfolding feed-answer feed-places
-  says-called x e fits f =
-      as-called w x e (call-refusal (plain e) (x .taken)) refl (rw (same-refusal x (plain e) fits, sheet-named) at (f .answers))
-      (rw (same-refusal x (plain e) fits, sheet-named) at (f .leaves))
+  abbrev answer : (text : List ℕ) → Lent → Feed-call
+  answer ts l = feed-call (sheet w ++ rest) (watch-of w ts) l
 
-  -- A RUN keeps the simulation, and its refusals are the machine's
-  entries-simulate : (es : List Feed-call) {x : Watch} {ps bs : List ℕ} {m : Machine} → Simulates w (Kept w) x ps bs m →
-      Run-of (sheet w ++ rest) es x →
-      Simulates w (Kept w) (last-watch es x) (ps ++ written-places es) (bs ++ taken-bytes es) (machine-after w (plain-calls es) m)
-      × Refused-right w es m
-  unfolding Run-of plain-calls last-watch written-places taken-bytes machine-after Refused-right
-  entries-simulate [] s r = (simp append-nil s, tt)
-  entries-simulate (e ∷ es) {x} {ps} {bs} {m} s r =
-      let q : As-called w x e = says-called x e (counted (accepted-bounds w good .0) s .fits) (r .0) in
-      let qs : List ℕ = ps ++ take (e .answer .written) (e .list-after) in
-      let cs : List ℕ = bs ++ take (e .answer .taken) (e .piece) in
-      let one = simulates-call w (Kept w) (kept-byte w) (plain e) s in
-      let t : Simulates w (Kept w) (e .answer .watch) qs cs (machine-call w (plain e) m) = rw (q .watch, q .places, q .taken) one in
-      let u = entries-simulate es t (r .1) in
-      (simp append-assoc at (u .0), (rw (← (s .bytes)) (q .refusal), u .1))
+  abbrev bytes : (text : List ℕ) → Lent → List ℕ
+  bytes ts l = take (answer ts l .answer .taken) (l .piece)
 
-  entries-run : (es : List Feed-call) → Run-of (sheet w ++ rest) es opened →
-      Simulates w (Kept w) (last-watch es opened) (written-places es) (taken-bytes es) (after w (plain-calls es)) × Refused-right w es machine-start
-  entries-run es r = entries-simulate es (simulates-start w (Kept w) (kept-start w)) r
+  call-is : (ts : List ℕ) (l : Lent) →
+      let n = call-refusal (plain l) (length ts) in
+      As-fed n (unless-refused n (feed w (l .piece) (length (l .list)) (watch-of w ts)) (watch-of w ts)) (answer ts l)
+  unfolding feed-call
+  call-is ts l = rw (same-refusal (plain l) ts, sheet-named) (as-fed (call-refusal (plain l) (length ts)) w (watch-of w ts) l)
+
+  reads : (ts : List ℕ) (l : Lent) → Read w ts (bytes ts l) (answer ts l .answer .watch) (written (answer ts l))
+  unfolding called
+  reads ts l = let q = call-is ts l in rw (q .watch, q .taken, q .told) (call-read w ts (plain l))
+
+  goes : (ts : List ℕ) (l : Lent) → machine-call w (plain l) (machine-of w ts) ≡ machine-of w (ts ++ bytes ts l)
+  unfolding called
+  goes ts l = rw (call-is ts l .taken) (machine-call-read w ts (plain l))
+
+  pub entries : (ls : List Lent) → Opened w (feeding written (sheet w ++ rest)) plain ls
+  entries = from-opened w (feeding written (sheet w ++ rest)) plain reads goes
+
+  -- the refusals are the machine's
+  refuses-from : (ls : List Lent) (ts : List ℕ) →
+      run (feeding refused (sheet w ++ rest)) ls (watch-of w ts) .told ≡ machine-refusals w (map plain ls) (machine-of w ts)
+  unfolding run machine-refusals
+  refuses-from [] ts = refl
+  refuses-from (l ∷ ls) ts =
+      rw (goes ts l, reads ts l .state, call-is ts l .refusal)
+      (ap (λ (ns : List ℕ). call-refusal (plain l) (length ts) ∷ ns) (refuses-from ls (ts ++ bytes ts l)))
 
 pub entries-count : Entries-count
 unfolding Entries-count
-entries-count w rest es good r =
-    let u = entries-run w rest good es r in
-    let s = u .0 in
+entries-count w rest ls good =
+    let o = entries w rest good ls in
     let some : 1 ≤ length w = accepted-bounds w good .0 in
-    let found : written-places es ≡ places-in (length (taken-bytes es)) 1 w (taken-bytes es) =
-    rw (s .text) (s .told ∙ s .keeps .right) in
-    let stand = places-stand-in w (taken-bytes es) some in
+    let stand = places-stand-in w (feed-run written (sheet w ++ rest) ls .bytes) some in
     record {
-      refusals = u .1;
-      counted = counted some s;
-      text = s .text;
-      places = s .told;
-      rise = rw found (stand .0);
-      stand = rw found (stand .1);
+      refusals = rw (opened-of w, start-of w) (refuses-from w rest good ls []);
+      counted = counted o some;
+      watch = watch-is o;
+      text = text-is o;
+      places = found-is o;
+      rise = rw (told-is o) (stand .0);
+      stand = rw (told-is o) (stand .1);
     }
 
 pub prepared-count : Prepared-count
 unfolding Prepared-count Entries-count Prepare-makes
-prepared-count w a es none r =
+prepared-count w a ls none =
     let made = prepare-makes w a none in
-    entries-count w (drop (length (sheet w)) a) es (made .0) (rw (made .1) at r)
+    rw (made .1) (entries-count w (drop (length (sheet w)) a) ls (made .0))
 
 pub entries-alike : Entries-alike
 unfolding Entries-alike
-entries-alike w rest other es fs good r q e =
-    alike (entries-run w rest good es r .0) (entries-run w other good fs q .0) e
+entries-alike w rest other ls ks good e = alike (entries w rest good ls) (entries w other good ks) e
 
 -- BEHIND THE SHEET: neither the refusal nor the code depends on it
 pub behind-unread : Behind-unread
-unfolding Behind-unread feed-answer feed-places feed-refusal
-behind-unread w rest other x cs a k good =
-    simp (sheet-begins w rest good, sheet-begins w other good, sheet-named w rest, sheet-named w other) (refl, refl)
+unfolding Behind-unread feed-call feed-refusal
+behind-unread w rest other x l good =
+    simp (sheet-begins w rest good, sheet-begins w other good, sheet-named w rest, sheet-named w other) refl

@@ -6,8 +6,9 @@ use native.Mathlib.Omega.{arith}
 use borrow.Author.Tests.{le-leb, lt-leb, leb-true}
 use lib.Dec.{leb}
 use Rattle.words.proofs.Tests.{and-left, and-right}
+use Rattle.runs.specs.Reading.{longest-text}
 use Rattle.finder.specs.declared.Watch.{Watch}
-use Rattle.finder.specs.Feed.{longest-text, fit}
+use Rattle.finder.specs.Feed.{fit}
 use Rattle.finder.specs.Inside.{Ready}
 
 module _ (m : ℕ) (x : Watch) where

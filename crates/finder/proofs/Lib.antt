@@ -1,12 +1,13 @@
+pub mod Texts
 pub mod Places
-pub mod Runs
 pub mod Promises
 pub mod Fitness
 pub mod Refusing
 pub mod Endings
 pub mod Entries
 pub mod Reading
+pub mod Skipping
+pub mod Leading
 pub mod Turns
-pub mod Walking
 pub mod Taking
 pub mod Samples

@@ -1,17 +1,20 @@
--- The promises about runs, read off the one simulation of Runs.antt. Assumes nothing.
+-- The promises about runs: the watch and the machine after any run are those of the bytes taken. Assumes nothing.
 use mathlib.Core.Path.{_≡_, refl, sym, ap, _∙_}
 use mathlib.Core.Bool.{true, _&&_}
-use mathlib.Core.List.{List, [], _∷_, _++_, append-nil}
-use Prim.Native.Nat.{ℕ, _+_, _-_, _*_, _≤_}
+use mathlib.Core.List.{List, [], _∷_, _++_, append-nil, append-assoc, map, map-id}
+use Prim.Native.Nat.{ℕ, _+_, _*_, _≤_}
 use native.Mathlib.Omega.{arith}
 use lib.Dec.{leb}
-use lib.ListN.{length, length-append}
+use lib.ListN.{length}
 use lib.Seq.{append-snoc}
 use borrow.Author.Tests.{le-leb}
-use Rattle.words.specs.Words.{Every, state-of, ends-with}
+use Rattle.words.specs.Words.{Every, state-of}
 use Rattle.words.proofs.Tests.{and-both}
 use Rattle.words.proofs.Lists.{length-snoc}
 use Rattle.words.proofs.Largest.{state-is}
+use Rattle.runs.specs.Reading.{over}
+use Rattle.runs.specs.Calls.{Outcome, run, Call}
+use Rattle.runs.proofs.Texts.{run-right}
 use Rattle.automaton.specs.Ceilings.{byte-ceiling}
 use Rattle.automaton.specs.Promise.{Byte-below}
 use Rattle.automaton.proofs.PaperArrows.{step-state}
@@ -19,75 +22,33 @@ use Rattle.automaton.proofs.TotalCeiling.{Running, running-start, running-byte,
 use Rattle.automaton.proofs.ByteCeiling.{byte-below}
 use Rattle.finder.specs.declared.Watch.{Watch}
 use Rattle.finder.specs.Feed.{opened, fit}
-use Rattle.finder.specs.Machine.{Machine, machine-start, cost-after, found-at, machine-byte, Call, costs, sum}
-use Rattle.finder.specs.Runs.{watch-after, places-over, bytes-over}
-use Rattle.finder.specs.Promise.{Counted, after, Runs-count, Text-taken, Alike-count, places-in, Places-told, Places-right, Places-stand}
-use Rattle.finder.proofs.Runs.{Simulates, state-nil, simulates-opened}
-use Rattle.finder.proofs.Places.{place-one, places-snoc, places-stand-in}
+use Rattle.finder.specs.Machine.{Machine, machine-start, cost-after, found-after, machine-call, machine-after}
+use Rattle.finder.specs.Texts.{places, costs, sum, watch-of}
+use Rattle.finder.specs.Promise.{Counted, after, Runs-count, Text-taken, Alike-count, Places-told, Places-right, Places-stand}
+use Rattle.finder.proofs.Places.{places-few, places-stand-in}
+use Rattle.finder.proofs.Texts.{machine-of, state-nil, opened-of, start-of, costs-snoc, Read, plain-call, call-read, machine-call-read}
 
--- COSTS: one more, and none over the byte ceiling
-costs-snoc : (w bs ts : List ℕ) (c : ℕ) → costs w bs (ts ++ (c ∷ [])) ≡ costs w bs ts ++ (cost-after w (bs ++ ts) c ∷ [])
-unfolding costs
-costs-snoc w bs [] c = rw append-nil
-costs-snoc w bs (d ∷ ts) c =
-    let at : bs ++ (d ∷ []) ++ ts ≡ bs ++ (d ∷ ts) = append-snoc bs d ts in
-    rw (costs-snoc w (bs ++ (d ∷ [])) ts c, at)
-
-sum-snoc : (ns : List ℕ) (n : ℕ) → sum (ns ++ (n ∷ [])) ≡ sum ns + n
-unfolding sum
-sum-snoc [] n = omega arith
-sum-snoc (k ∷ ns) n = rw (sum-snoc ns n) (omega arith)
-
+-- THE COSTS OF A TEXT keep to both ceilings
 costs-below : (w bs ts : List ℕ) → Every (λ k. k ≤ byte-ceiling w) (costs w bs ts)
-unfolding costs cost-after Byte-below
+unfolding over cost-after Byte-below
 costs-below w bs [] = tt
 costs-below w bs (c ∷ ts) = (byte-below w (state-of w bs) c (state-is w bs .bound), costs-below w (bs ++ (c ∷ [])) ts)
 
--- THE MACHINE alone: a text read from the empty one on
-unfoldable pub read : (w text : List ℕ) → Machine → Machine
-read w [] m = m
-read w (c ∷ cs) m = read w cs (machine-byte w c m)
+module _ (w : List ℕ) (some : 1 ≤ length w) where
+  abbrev Kept : (text : List ℕ) → Type 0
+  Kept ts = Running w (length ts) (state-of w ts) (sum (costs w [] ts))
 
-read-snoc : (w ts : List ℕ) (c : ℕ) (m : Machine) → read w (ts ++ (c ∷ [])) m ≡ machine-byte w c (read w ts m)
-unfolding read
-read-snoc w [] c m = refl
-read-snoc w (d ∷ ts) c m = read-snoc w ts c (machine-byte w d m)
+  kept-more : (bs ts : List ℕ) → Kept bs → Kept (bs ++ ts)
+  unfolding cost-after
+  kept-more bs [] r = rw append-nil r
+  kept-more bs (c ∷ ts) r =
+      rw append-snoc at
+      (kept-more (bs ++ (c ∷ [])) ts
+      (rw (length-snoc, ← step-state, costs-snoc) (running-byte w (length bs) (state-of w bs) (sum (costs w [] bs)) c some r)))
 
-found-few : (w ts : List ℕ) → length (found-at w ts) ≤ 1
-unfolding found-at
-found-few w ts = place-one (ends-with ts w (length w)) (length ts - length w)
-
--- what each byte keeps: all that a machine has is told by its text
-pub record Kept (w : List ℕ) (m : Machine) : Type 0 where
-  pub alone : m ≡ read w (m .text) machine-start
-  pub right : m .found ≡ places-in (length (m .text)) 1 w (m .text)
-  pub few : length (m .found) ≤ length (m .text)
-  pub adds : m .total ≡ sum (costs w [] (m .text))
-  pub running : 1 ≤ length w → Running w (length (m .text)) (state-of w (m .text)) (m .total)
-
-pub kept-start : (w : List ℕ) → Kept w machine-start
-unfolding read places-in costs sum
-kept-start w =
-    record { alone = refl; right = refl; few = omega arith; adds = refl; running = λ some. rw (state-nil w) (running-start w) }
-
-pub kept-byte : (w : List ℕ) (c : ℕ) (m : Machine) → Kept w m → Kept w (machine-byte w c m)
-unfolding machine-byte cost-after
-kept-byte w c m q =
-    let ts : List ℕ = m .text in
-    let us : List ℕ = ts ++ (c ∷ []) in
-    record {
-      alone = ap (machine-byte w c) (q .alone) ∙ sym (read-snoc w ts c machine-start);
-      right = rw (places-snoc, q .right);
-      few = omega (arith, length-append (m .found) (found-at w us), length-snoc ts c, found-few w us, q .few);
-      adds = rw (costs-snoc w [] ts c, sum-snoc, q .adds);
-      running = λ some.
-          rw (length-snoc, ← step-state) (running-byte w (length ts) (state-of w ts) (m .total) c some (q .running some));
-    }
-
--- A RUN from an opening
-run : (w : List ℕ) (cs : List Call) →
-    Simulates w (Kept w) (watch-after w cs opened) (places-over w cs opened) (bytes-over w cs opened) (after w cs)
-run w cs = simulates-opened w (Kept w) (kept-byte w) (kept-start w) cs
+  kept : (ts : List ℕ) → Kept ts
+  unfolding over sum
+  kept ts = kept-more [] ts (rw (state-nil w) (running-start w))
 
 fit-is : (l : ℕ) (x : Watch) →
     x .state ≤ l → x .state ≤ x .taken → x .hits ≤ x .taken → x .compares ≤ 2 * x .taken → fit l x ≡ true
@@ -98,65 +59,99 @@ fit-is l x a b c d =
     (and-both (leb (x .state) l) (leb (x .state) n) (le-leb (x .state) l a) (le-leb (x .state) n b))
     (and-both (leb (x .hits) n) (leb (x .compares) (2 * n)) (le-leb (x .hits) n c) (le-leb (x .compares) (2 * n) d))
 
--- a watch in the simulation has all that the third demand asks
-pub counted : {w : List ℕ} {x : Watch} {ps bs : List ℕ} {m : Machine} → 1 ≤ length w → Simulates w (Kept w) x ps bs m → Counted w x m
-counted {w} {x} {m = m} some s =
-    let n : ℕ = length (m .text) in
-    let p : ℕ = state-of w (m .text) in
-    let r : Running w n p (m .total) = s .keeps .running some in
+-- THE WATCH AND THE MACHINE OF A TEXT have all that the third demand asks
+pub counted-of : (w ts : List ℕ) → 1 ≤ length w → Counted w (watch-of w ts) (machine-of w ts)
+counted-of w ts some =
+    let n : ℕ = sum (costs w [] ts) in
+    let r = kept w some ts in
     record {
-      bytes = s .bytes;
-      state = s .state;
-      hits = s .hits;
-      compares = s .compares;
-      adds = s .keeps .adds;
-      each-below = costs-below w [] (m .text);
-      total-below = running-below w n p (m .total) some r;
-      fits =
-          fit-is (length w) x (omega (arith, s .state, r .state)) (omega (arith, s .state, s .bytes, r .reached))
-          (omega (arith, s .hits, s .bytes, s .keeps .few))
-          (omega (arith, s .compares, s .bytes, running-twice w n p (m .total) some r));
+      bytes = refl;
+      state = refl;
+      hits = refl;
+      compares = refl;
+      adds = refl;
+      each-below = costs-below w [] ts;
+      total-below = running-below w (length ts) (state-of w ts) n some r;
+      fits = fit-is (length w) (watch-of w ts) (r .state) (r .reached) (places-few w ts) (running-twice w (length ts) (state-of w ts) n some r);
     }
+
+-- A RUN from an opening on, of any entry point, and the plain machine beside it: both have come to the bytes taken
+abbrev outcome-of : (w text : List ℕ) → Outcome Watch ℕ
+outcome-of w ts = record { after = watch-of w ts; bytes = ts; told = places w ts }
+
+pub record Opened (w : List ℕ) {C : Type 0} (entry : C → Watch → Outcome Watch ℕ) (plain : C → Call) (cs : List C) : Type 0 where
+  pub ran : run entry cs opened ≡ outcome-of w (run entry cs opened .bytes)
+  pub machine : after w (map plain cs) ≡ machine-of w (run entry cs opened .bytes)
+
+-- where each call does with the watch of a text what a plain one does
+module _
+    (w : List ℕ) {C : Type 0} (entry : C → Watch → Outcome Watch ℕ) (plain : C → Call)
+    (reads : (ts : List ℕ) (c : C) → let e = entry c (watch-of w ts) in Read w ts (e .bytes) (e .after) (e .told))
+    (goes : (ts : List ℕ) (c : C) → machine-call w (plain c) (machine-of w ts) ≡ machine-of w (ts ++ entry c (watch-of w ts) .bytes)) where
+  machine-runs : (cs : List C) (ts : List ℕ) →
+      machine-after w (map plain cs) (machine-of w ts) ≡ machine-of w (ts ++ run entry cs (watch-of w ts) .bytes)
+  unfolding machine-after run
+  machine-runs [] ts = rw append-nil refl
+  machine-runs (c ∷ cs) ts =
+      let bs : List ℕ = entry c (watch-of w ts) .bytes in
+      let all : (x : Watch) → List ℕ = λ x. run entry cs x .bytes in
+      ap (machine-after w (map plain cs)) (goes ts c) ∙ machine-runs cs (ts ++ bs)
+      ∙ ap (machine-of w) (append-assoc ts bs (all (watch-of w (ts ++ bs))) ∙ ap (λ (x : Watch). ts ++ (bs ++ all x)) (sym (reads ts c .state)))
+
+  pub from-opened : (cs : List C) → Opened w entry plain cs
+  from-opened cs =
+      let u = run-right (watch-of w) (found-after w) entry reads cs [] in
+      let bs : List ℕ = run entry cs (watch-of w []) .bytes in
+      record {
+        ran = rw (opened-of w) (λ i. record { after = u .state i; bytes = bs; told = u .tells i });
+        machine = rw (opened-of w) (ap (machine-after w (map plain cs)) (start-of w) ∙ machine-runs cs []);
+      }
+
+-- what follows of the bytes taken: the third demand, the second, and that nothing else counts
+module _ {w : List ℕ} {C : Type 0} {entry : C → Watch → Outcome Watch ℕ} {plain : C → Call} {cs : List C} (o : Opened w entry plain cs) where
+  pub watch-is : run entry cs opened .after ≡ watch-of w (run entry cs opened .bytes)
+  watch-is = ap (λ (r : Outcome Watch ℕ). r .after) (o .ran)
+
+  pub counted : 1 ≤ length w → Counted w (run entry cs opened .after) (after w (map plain cs))
+  counted some = rw (watch-is, o .machine) (counted-of w (run entry cs opened .bytes) some)
+
+  pub text-is : run entry cs opened .bytes ≡ after w (map plain cs) .text
+  text-is = sym (ap (λ (m : Machine). m .text) (o .machine))
+
+  pub told-is : run entry cs opened .told ≡ places w (run entry cs opened .bytes)
+  told-is = ap (λ (r : Outcome Watch ℕ). r .told) (o .ran)
+
+  pub found-is : run entry cs opened .told ≡ after w (map plain cs) .found
+  found-is = told-is ∙ sym (ap (λ (m : Machine). m .found) (o .machine))
+
+pub alike : {w : List ℕ} {C : Type 0} {p q : C → Watch → Outcome Watch ℕ} {plain : C → Call} {cs ds : List C} →
+    Opened w p plain cs → Opened w q plain ds → run p cs opened .bytes ≡ run q ds opened .bytes → run p cs opened ≡ run q ds opened
+alike {w} o u e = o .ran ∙ ap (outcome-of w) e ∙ sym (u .ran)
+
+-- THE PROMISES about plain calls
+calls : (w : List ℕ) (cs : List Call) → Opened w (plain-call w) (λ c. c) cs
+calls w cs = from-opened w (plain-call w) (λ c. c) (call-read w) (machine-call-read w) cs
 
 pub runs-count : Runs-count
 unfolding Runs-count
-runs-count w cs some = counted some (run w cs)
+runs-count w cs some = rw (map-id cs) at (counted (calls w cs) some)
 
 pub text-taken : Text-taken
 unfolding Text-taken
-text-taken w cs = sym (run w cs .text)
-
-pub places-told : Places-told
-unfolding Places-told
-places-told w cs = run w cs .told
-
-pub places-right : Places-right
-unfolding Places-right
-places-right w cs = run w cs .keeps .right
-
-pub places-stand : Places-stand
-unfolding Places-stand
-places-stand w cs some = rw (run w cs .keeps .right) (places-stand-in w (after w cs .text) some)
-
--- LISTS ALIKE: watches and places told are equal where the bytes taken are, since a machine is read off its text
-same-watch : {w : List ℕ} {P : Machine → Type 0} {x y : Watch} {ps qs bs ds : List ℕ} {m : Machine} →
-    Simulates w P x ps bs m → Simulates w P y qs ds m → x ≡ y
-same-watch u v =
-    λ i.
-    record {
-      state = (u .state ∙ sym (v .state)) i;
-      taken = (u .bytes ∙ sym (v .bytes)) i;
-      hits = (u .hits ∙ sym (v .hits)) i;
-      compares = (u .compares ∙ sym (v .compares)) i;
-    }
-
-pub alike : {w : List ℕ} {x y : Watch} {ps qs bs ds : List ℕ} {m n : Machine} →
-    Simulates w (Kept w) x ps bs m → Simulates w (Kept w) y qs ds n → bs ≡ ds → (x ≡ y) × (ps ≡ qs)
-alike {w} {m = m} {n} u v e =
-    let texts : m .text ≡ n .text = sym (u .text) ∙ e ∙ v .text in
-    let one : m ≡ n = u .keeps .alone ∙ ap (λ (ts : List ℕ). read w ts machine-start) texts ∙ sym (v .keeps .alone) in
-    (same-watch (rw one at u) v, u .told ∙ ap (λ (k : Machine). k .found) one ∙ sym (v .told))
+text-taken w cs = rw (map-id cs) at (sym (text-is (calls w cs)))
 
 pub alike-count : Alike-count
 unfolding Alike-count
-alike-count w cs ds e = alike (run w cs) (run w ds) e
+alike-count w cs ds e = alike (calls w cs) (calls w ds) e
+
+pub places-told : Places-told
+unfolding Places-told
+places-told w cs = rw (map-id cs) at (found-is (calls w cs))
+
+pub places-right : Places-right
+unfolding Places-right Places-told Text-taken
+places-right w cs = sym (places-told w cs) ∙ told-is (calls w cs) ∙ ap (places w) (sym (text-taken w cs))
+
+pub places-stand : Places-stand
+unfolding Places-stand Places-right
+places-stand w cs some = rw (places-right w cs) (places-stand-in w (after w cs .text) some)

@@ -9,14 +9,15 @@ use native.Mathlib.Omega.{arith}
 use lib.Dec.{ltb, eqb}
 use lib.ListN.{length}
 use Rattle.words.proofs.Tests.{by-test, by-eq, by-le}
+use Rattle.runs.specs.Reading.{longest-text}
 use Rattle.codes.specs.Refusals.{refused-if, first-refusal}
 use Rattle.codes.specs.Sheet.{named, begins}
 use Rattle.codes.proofs.Refusals.{refused, passed, none-first, none-later, accepted-bounds}
 use Rattle.codes.proofs.Sheets.{begins-accepted, begins-front}
 use Rattle.finder.specs.declared.Watch.{Watch}
 use Rattle.finder.specs.declared.Feeding.{Feeding}
-use Rattle.finder.specs.Feed.{longest-text, fit}
-use Rattle.finder.specs.Entry.{feed-refusal, refused-answer, answer-by, feed-answer, feed-places, Feed-says}
+use Rattle.finder.specs.Feed.{fit}
+use Rattle.finder.specs.Entry.{Lent, feed-refusal, refused-call, call-by, feed-call, Feed-says}
 use Rattle.finder.specs.Inside.{On-sheet, Ready, Took}
 use Rattle.finder.proofs.Fitness.{fit-ready}
 
@@ -106,17 +107,15 @@ module _ (bs : List ℕ) (x : Watch) (l k : ℕ) where
     )
 
 -- THE CONTRACT
-module _ (bs : List ℕ) (x : Watch) (cs a : List ℕ) (n : ℕ) (e : n ≡ feed-refusal bs x (length cs) (length a)) where
-  pub says-refused : n ≢ 0 → Feed-says bs x cs (refused-answer n x) a a
-  unfolding feed-answer feed-places
-  says-refused h = record { answers = rw (← e) (by-number n h); leaves = rw (← e, ne-eqb n 0 h) refl }
+module _ (bs : List ℕ) (x : Watch) (l : Lent) (n : ℕ) (e : n ≡ feed-refusal bs x (length (l .piece)) (length (l .list))) where
+  pub says-refused : n ≢ 0 → Feed-says bs x l (refused-call n x l .answer) l
+  unfolding feed-call
+  says-refused h = record { is = rw (← e) (by-number n h) }
     where
-      by-number : (j : ℕ) → j ≢ 0 → refused-answer j x ≡ answer-by j (named bs) cs (length a) x
+      by-number : (j : ℕ) → j ≢ 0 → refused-call j x l ≡ call-by j (named bs) x l
       by-number zero z = absurd (z refl)
-      by-number (suc j) z = unfold answer-by in refl
+      by-number (suc j) z = unfold call-by in refl
 
-  pub says-took : n ≡ 0 → (r : Feeding) (b : List ℕ) → Took (named bs) x cs r a b → Feed-says bs x cs r a b
-  unfolding feed-answer feed-places answer-by
-  says-took z r b t =
-      let none : feed-refusal bs x (length cs) (length a) ≡ 0 = sym e ∙ z in
-      record { answers = rw none (t .answers); leaves = rw none (t .leaves) }
+  pub says-took : n ≡ 0 → (r : Feeding) (a : Lent) → Took (named bs) x l r a → Feed-says bs x l r a
+  unfolding Took feed-call call-by
+  says-took z r a t = record { is = rw (sym e ∙ z) t }

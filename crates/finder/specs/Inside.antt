@@ -1,17 +1,19 @@
 -- What the private functions of this crate need and promise. Assumes nothing: these are definitions.
 use mathlib.Core.Path.{_≡_}
-use mathlib.Core.List.{List}
+use mathlib.Core.List.{List, [], _∷_}
 use mathlib.Core.Logic.{_≢_}
 use Prim.Native.Nat.{ℕ, suc, _+_, _*_, _-_, _^_, _≤_, _<_}
-use lib.Dec.{eqb}
 use lib.ListN.{length, getD, drop}
+use Rattle.runs.specs.Reading.{longest-text, fed-more}
 use Rattle.codes.specs.Codes.{longest-code}
 use Rattle.codes.specs.Sheet.{sheet, named, in-front}
 use Rattle.finder.specs.declared.Watch.{Watch}
+use Rattle.finder.specs.declared.Found.{Found}
+use Rattle.finder.specs.declared.Found.the-variants.{At, Nothing}
 use Rattle.finder.specs.declared.Turn.{Turn}
 use Rattle.finder.specs.declared.Feeding.{Feeding}
-use Rattle.finder.specs.Feed.{longest-text, place-if, feed, fed-more}
-use Rattle.finder.specs.Entry.{fed-answer}
+use Rattle.finder.specs.Feed.{completed, feed}
+use Rattle.finder.specs.Entry.{Lent, fed-call}
 
 -- the buffer begins with the sheet of the code that it names, which is accepted
 pub record On-sheet (bs : List ℕ) : Type 0 where
@@ -27,23 +29,14 @@ pub record Ready (m : ℕ) (x : Watch) (n : ℕ) : Type 0 where
   pub text : x .taken + n ≤ longest-text
   pub cheap : x .compares + 256 * n < 2 ^ 63
 
--- the place that a watch has just completed, a list of none or one
-unfoldable pub completed : (m : ℕ) → Watch → List ℕ
-completed m x = place-if (eqb (x .state) m) (x .taken - m)
+-- what a turn has found, a list of none or one
+abbrev pub found-list : Found → List ℕ
+found-list (At place) = place ∷ []
+found-list Nothing = []
 
--- the watch after n bytes that led to state q at a cost, the last of which may have completed a place
-unfoldable pub with-run : (m n q cost : ℕ) → Watch → Watch
-with-run m n q cost x =
-    record {
-      state = q;
-      taken = x .taken + n;
-      hits = x .hits + length (place-if (eqb q m) (x .taken + n - m));
-      compares = x .compares + cost;
-    }
-
--- in state 0, n bytes that follow no arrow: one comparison each
-abbrev pub missed : (n : ℕ) → Watch → Watch
-missed n x = record { state = 0; taken = x .taken + n; hits = x .hits; compares = x .compares + n }
+-- the watch after n bytes that led to a state at a cost and completed so many places
+abbrev pub led : Watch → (state n hits cost : ℕ) → Watch
+led x q n h c = record { state = q; taken = x .taken + n; hits = x .hits + h; compares = x .compares + c }
 
 -- the first place from a place on where a byte stands, or the end
 pub record Skipped (piece : List ℕ) (from byte at : ℕ) : Type 0 where
@@ -52,25 +45,40 @@ pub record Skipped (piece : List ℕ) (from byte at : ℕ) : Type 0 where
   pub others : (i : ℕ) → from ≤ i → i < at → getD piece i 0 ≢ byte
   pub found : at < length piece → getD piece at 0 ≡ byte
 
--- a turn of the loop over a piece can start at place i, with the sheet of a code of m bytes
-pub record Turning (bs : List ℕ) (m : ℕ) (x : Watch) (piece : List ℕ) (i : ℕ) : Type 0 where
+-- THE LOOP OVER A PIECE, which has so many bytes of text before it, with the sheet of a code of m bytes. A turn can start at place i in state p
+pub record Turning (bs : List ℕ) (m before p : ℕ) (piece : List ℕ) (i : ℕ) : Type 0 where
   pub on : On-sheet bs
   pub m-is : m ≡ length (named bs)
   pub inside : i < length piece
-  pub ready : Ready m x (length piece - i)
+  pub state : p ≤ m
+  pub read : p ≤ before + i
+  pub text : before + length piece ≤ longest-text
 
--- it has taken bytes of which only the last may have completed a place
-pub record Turned (w piece : List ℕ) (x : Watch) (i : ℕ) (t : Turn) : Type 0 where
-  pub later : i < t .at
-  pub within : t .at ≤ length piece
-  pub ready : Ready (length w) (t .watch) (length piece - t .at)
+-- the bytes from place i to place j lead from state p to state q at a cost, and complete these places: whatever else the watch holds, feeding goes on so
+-- behind them
+pub record Leads (w piece : List ℕ) (before p i q cost j : ℕ) (told : List ℕ) : Type 0 where
+  pub on : i ≤ j
+  pub within : j ≤ length piece
+  pub state : q ≤ length w
+  pub read : q ≤ before + j
+  pub cheap : cost ≤ 256 * (j - i)
   pub feeds :
-      (k : ℕ) →
+      (x : Watch) → x .state ≡ p → x .taken ≡ before + i → (k : ℕ) →
       feed w (drop i piece) (suc k) x
-      ≡ fed-more (t .at - i) (completed (length w) (t .watch))
-      (feed w (drop (t .at) piece) (suc k - length (completed (length w) (t .watch))) (t .watch))
+      ≡ fed-more (j - i) told (feed w (drop j piece) (suc k - length told) (led x q (j - i) (length told) cost))
 
--- a piece was taken: what was fed is answered, and its places are in front of the list
-pub record Took (w : List ℕ) (x : Watch) (piece : List ℕ) (answer : Feeding) (list list-after : List ℕ) : Type 0 where
-  pub answers : answer ≡ fed-answer piece (length list) (feed w piece (length list) x)
-  pub leaves : list-after ≡ in-front (feed w piece (length list) x .places) list
+-- a turn that has come to a place, a state and a cost: what the state has completed there is found
+pub record Come-to (m before q c j : ℕ) (t : Turn) : Type 0 where
+  pub state : t .state ≡ q
+  pub cost : t .cost ≡ c
+  pub at : t .at ≡ j
+  pub found : found-list (t .found) ≡ completed m q (before + j)
+
+-- it has taken bytes, and they have led so far
+pub record Turned (w piece : List ℕ) (before p i : ℕ) (t : Turn) : Type 0 where
+  pub later : i < t .at
+  pub leads : Leads w piece before p i (t .state) (t .cost) (t .at) (found-list (t .found))
+
+-- a piece was taken: the call is one that is not refused
+unfoldable pub Took : (w : List ℕ) → Watch → (before : Lent) → (answer : Feeding) → (after : Lent) → Type 0
+Took w x b r a = record { answer = r; left = a } ≡ fed-call (feed w (b .piece) (length (b .list)) x) b

@@ -1,6 +1,6 @@
 pub mod Feed
 pub mod Machine
-pub mod Runs
+pub mod Texts
 pub mod Entry
 pub mod Promise
 pub mod Samples

@@ -1,22 +1,26 @@
--- What is promised of runs of feeding calls, of endings, and of `feed`'s own answers. Each statement is a type; docs/PROOFS.md names its proof. Assumes nothing.
+-- What is promised of runs of feeding calls, of endings, and of `feed`'s own answers. Each statement is a type; docs/PROOFS.md names its proof. Assumes
+-- nothing.
 use mathlib.Core.Path.{_≡_}
 use mathlib.Core.Bool.{true}
-use mathlib.Core.List.{List, [], _++_}
+use mathlib.Core.List.{List, [], _∷_, _++_, map}
 use mathlib.Core.Logic.{_≢_, _↔_}
-use Prim.Native.Nat.{ℕ, zero, suc, _+_, _-_, _≤_, _<_}
+use Prim.Native.Nat.{ℕ, suc, _+_, _≤_, _<_}
 use lib.ListN.{length, take, drop}
-use Rattle.words.specs.Words.{byte, member, Every, Rising, ends-with, state-of}
+use Rattle.words.specs.Words.{byte, member, Every, Rising, state-of}
+use Rattle.runs.specs.declared.Ending.the-variants.{PieceDone}
+use Rattle.runs.specs.Reading.{fed, ending-refusal, ending-full}
+use Rattle.runs.specs.Calls.{Outcome, run, Call, called}
 use Rattle.automaton.specs.Ceilings.{byte-ceiling, total-ceiling}
 use Rattle.codes.specs.Codes.{accepted}
 use Rattle.codes.specs.Sheet.{sheet}
 use Rattle.codes.specs.Entry.{prepare-refusal, prepare-buffer}
 use Rattle.codes.specs.Promise.{Sheet-of}
 use Rattle.finder.specs.declared.Watch.{Watch}
-use Rattle.finder.specs.declared.Ending.the-variants.{PieceDone}
-use Rattle.finder.specs.Feed.{opened, fit, place-if, fed, feed}
-use Rattle.finder.specs.Machine.{Machine, machine-start, Call, machine-after, costs, sum}
-use Rattle.finder.specs.Runs.{watch-after, places-over, bytes-over}
-use Rattle.finder.specs.Entry.{ending-refusal, ending-full, feed-refusal, feed-answer, feed-places, Feed-call, Run-of, plain-calls, last-watch, written-places, taken-bytes, Refused-right}
+use Rattle.finder.specs.declared.Feeding.{Feeding}
+use Rattle.finder.specs.Feed.{opened, fit, feeder, feed}
+use Rattle.finder.specs.Machine.{Machine, machine-start, call-refusal, machine-after, machine-refusals}
+use Rattle.finder.specs.Texts.{places, costs, sum, watch-of}
+use Rattle.finder.specs.Entry.{Lent, Feed-call, feed-refusal, feed-call, Feed-says, feed-run, written, refused, plain}
 
 -- THE THIRD DEMAND: a watch has what the plain machine has, and the machine's costs keep to both ceilings
 pub record Counted (w : List ℕ) (x : Watch) (m : Machine) : Type 0 where
@@ -29,23 +33,23 @@ pub record Counted (w : List ℕ) (x : Watch) (m : Machine) : Type 0 where
   pub total-below : m .total ≤ total-ceiling (length w) (length (m .text))
   pub fits : fit (length w) x ≡ true
 
--- the machine after a list of calls
+-- A LIST OF CALLS from an opening on, refused ones among them: the machine after it, and the run of the definitions
 abbrev pub after : (w : List ℕ) → List Call → Machine
 after w cs = machine-after w cs machine-start
 
--- of any list of calls from an opening on, refused ones among them
+abbrev pub plain-run : (w : List ℕ) → List Call → Outcome Watch ℕ
+plain-run w cs = run (called (feeder w) (λ c x. call-refusal c (x .taken))) cs opened
+
 unfoldable pub Runs-count : Type 0
-Runs-count = (w : List ℕ) (cs : List Call) → 1 ≤ length w → Counted w (watch-after w cs opened) (after w cs)
+Runs-count = (w : List ℕ) (cs : List Call) → 1 ≤ length w → Counted w (plain-run w cs .after) (after w cs)
 
 -- the machine's text is the bytes taken
 unfoldable pub Text-taken : Type 0
-Text-taken = (w : List ℕ) (cs : List Call) → after w cs .text ≡ bytes-over w cs opened
+Text-taken = (w : List ℕ) (cs : List Call) → after w cs .text ≡ plain-run w cs .bytes
 
 -- lists alike in the code and the bytes taken end alike, in the watch and in the places
 unfoldable pub Alike-count : Type 0
-Alike-count =
-    (w : List ℕ) (cs ds : List Call) → bytes-over w cs opened ≡ bytes-over w ds opened →
-    (watch-after w cs opened ≡ watch-after w ds opened) × (places-over w cs opened ≡ places-over w ds opened)
+Alike-count = (w : List ℕ) (cs ds : List Call) → plain-run w cs .bytes ≡ plain-run w ds .bytes → plain-run w cs ≡ plain-run w ds
 
 -- in state 0 a piece without the code's first byte is taken whole: each byte leads to 0 again at a cost of 1, and nothing is reported
 unfoldable pub Bytes-passed : Type 0
@@ -56,16 +60,11 @@ Bytes-passed =
 
 -- THE SECOND DEMAND: the places that the calls write are those that the plain machine finds
 unfoldable pub Places-told : Type 0
-Places-told = (w : List ℕ) (cs : List Call) → places-over w cs opened ≡ after w cs .found
+Places-told = (w : List ℕ) (cs : List Call) → plain-run w cs .told ≡ after w cs .found
 
--- those are the ends, one by one, at which the text so far ends with the code
-unfoldable pub places-in : (left end : ℕ) → (w text : List ℕ) → List ℕ
-places-in zero e w ts = []
-places-in (suc k) e w ts =
-    place-if (ends-with (take e ts) w (length w)) (e - length w) ++ places-in k (suc e) w ts
-
+-- those are found byte by byte, where the text so far ends with the code
 unfoldable pub Places-right : Type 0
-Places-right = (w : List ℕ) (cs : List Call) → after w cs .found ≡ places-in (length (after w cs .text)) 1 w (after w cs .text)
+Places-right = (w : List ℕ) (cs : List Call) → after w cs .found ≡ places w (after w cs .text)
 
 -- they rise, and i is one of them exactly when the bytes of the text from i on are the code
 unfoldable pub Places-stand : Type 0
@@ -77,57 +76,65 @@ Places-stand =
 -- an ending has its refusal's number; list full: the list is full and bytes of the piece are left; piece done: all its bytes were taken
 unfoldable pub Endings-told : Type 0
 Endings-told =
-    (buffer : List ℕ) (x : Watch) (piece : List ℕ) (room : ℕ) →
-    let r = feed-answer buffer x piece room in
-    (ending-refusal (r .ending) ≡ feed-refusal buffer x (length piece) room)
-    × (ending-full (r .ending) ≡ 1 → (r .written ≡ room) × (r .taken < length piece))
-    × (ending-refusal (r .ending) ≡ 0 → ending-full (r .ending) ≡ 0 → r .taken ≡ length piece)
+    (buffer : List ℕ) (x : Watch) (l : Lent) →
+    let r = feed-call buffer x l .answer in
+    (ending-refusal (r .ending) ≡ feed-refusal buffer x (length (l .piece)) (length (l .list)))
+    × (ending-full (r .ending) ≡ 1 → (r .written ≡ length (l .list)) × (r .taken < length (l .piece)))
+    × (ending-refusal (r .ending) ≡ 0 → ending-full (r .ending) ≡ 0 → r .taken ≡ length (l .piece))
 
 -- number 4 comes up exactly where the buffer does not begin with the sheet of an accepted code
 unfoldable pub Sheets-told : Type 0
 Sheets-told =
-    (buffer : List ℕ) (x : Watch) (piece : List ℕ) (room : ℕ) →
-    (ending-refusal (feed-answer buffer x piece room .ending) ≡ 4) ↔ (Sheet-of buffer → ⊥)
+    (buffer : List ℕ) (x : Watch) (l : Lent) →
+    (ending-refusal (feed-call buffer x l .answer .ending) ≡ 4) ↔ (Sheet-of buffer → ⊥)
 
 -- bytes behind the sheet are not looked at, whatever the watch
 unfoldable pub Behind-unread : Type 0
 Behind-unread =
-    (w rest other : List ℕ) (x : Watch) (piece list : List ℕ) (room : ℕ) → accepted w ≡ true →
-    (feed-answer (sheet w ++ rest) x piece room ≡ feed-answer (sheet w ++ other) x piece room)
-    × (feed-places (sheet w ++ rest) x piece list ≡ feed-places (sheet w ++ other) x piece list)
+    (w rest other : List ℕ) (x : Watch) (l : Lent) → accepted w ≡ true →
+    feed-call (sheet w ++ rest) x l ≡ feed-call (sheet w ++ other) x l
 
 -- feeding goes on: a call that is not refused takes at least one byte of a piece that is not empty; an empty piece changes nothing and is done
 unfoldable pub Feeding-goes-on : Type 0
 Feeding-goes-on =
-    (buffer : List ℕ) (x : Watch) (piece list : List ℕ) → feed-refusal buffer x (length piece) (length list) ≡ 0 →
-    let r = feed-answer buffer x piece (length list) in
-    (1 ≤ length piece → 1 ≤ r .taken)
-    × (piece ≡ [] →
-    (r ≡ record { watch = x; taken = 0; written = 0; ending = PieceDone }) × (feed-places buffer x piece list ≡ list))
+    (buffer : List ℕ) (x : Watch) (l : Lent) → feed-refusal buffer x (length (l .piece)) (length (l .list)) ≡ 0 →
+    let e = feed-call buffer x l in
+    (1 ≤ length (l .piece) → 1 ≤ e .answer .taken)
+    × (l .piece ≡ [] → (e .answer ≡ record { watch = x; taken = 0; written = 0; ending = PieceDone }) × (e .left ≡ l))
 
--- THE ENTRY POINTS. What their own answers come to over a run: the third demand, and the second
-pub record Entries-counted (w : List ℕ) (es : List Feed-call) : Type 0 where
-  pub refusals : Refused-right w es machine-start
-  pub counted : Counted w (last-watch es opened) (after w (plain-calls es))
-  pub text : taken-bytes es ≡ after w (plain-calls es) .text
-  pub places : written-places es ≡ after w (plain-calls es) .found
-  pub rise : Rising (written-places es)
-  pub stand : (i : ℕ) → (member i (written-places es) ≡ true) ↔ (take (length w) (drop i (taken-bytes es)) ≡ w)
+-- A CALLER'S OWN CALLS are a run: it begins with an opening and nothing taken, and a call of `feed` that gets the last watch makes it one longer
+unfoldable pub Runs-grow : Type 0
+Runs-grow =
+    (part : Feed-call → List ℕ) (buffer : List ℕ) (ls : List Lent) (l : Lent) (r : Feeding) (a : Lent) →
+    let q = feed-run part buffer ls in
+    Feed-says buffer (q .after) l r a →
+    feed-run part buffer (ls ++ (l ∷ []))
+    ≡ record { after = r .watch; bytes = q .bytes ++ take (r .taken) (l .piece); told = q .told ++ part (record { answer = r; left = a }) }
 
--- of any run on a buffer that begins with the sheet of an accepted code, from an opening on
+-- THE ENTRY POINTS. What the answers of `feed` come to over a run, whatever its calls are lent: the third demand, and the second
+pub record Entries-counted (w buffer : List ℕ) (ls : List Lent) : Type 0 where
+  pub refusals : feed-run refused buffer ls .told ≡ machine-refusals w (map plain ls) machine-start
+  pub counted : Counted w (feed-run written buffer ls .after) (after w (map plain ls))
+  pub watch : feed-run written buffer ls .after ≡ watch-of w (feed-run written buffer ls .bytes)
+  pub text : feed-run written buffer ls .bytes ≡ after w (map plain ls) .text
+  pub places : feed-run written buffer ls .told ≡ after w (map plain ls) .found
+  pub rise : Rising (feed-run written buffer ls .told)
+  pub stand :
+      (i : ℕ) → (member i (feed-run written buffer ls .told) ≡ true) ↔ (take (length w) (drop i (feed-run written buffer ls .bytes)) ≡ w)
+
+-- on a buffer that begins with the sheet of an accepted code
 unfoldable pub Entries-count : Type 0
-Entries-count =
-    (w rest : List ℕ) (es : List Feed-call) → accepted w ≡ true → Run-of (sheet w ++ rest) es opened → Entries-counted w es
+Entries-count = (w rest : List ℕ) (ls : List Lent) → accepted w ≡ true → Entries-counted w (sheet w ++ rest) ls
 
--- so from preparing on: of any run on the buffer that preparing left, if it was not refused
+-- so from preparing on: on the buffer that preparing left, if it was not refused
 unfoldable pub Prepared-count : Type 0
 Prepared-count =
-    (w buffer : List ℕ) (es : List Feed-call) → prepare-refusal w (length buffer) ≡ 0 → Run-of (prepare-buffer w buffer) es opened →
-    Entries-counted w es
+    (w buffer : List ℕ) (ls : List Lent) → prepare-refusal w (length buffer) ≡ 0 → Entries-counted w (prepare-buffer w buffer) ls
 
 -- two runs alike in the code and the bytes taken end alike
 unfoldable pub Entries-alike : Type 0
 Entries-alike =
-    (w rest other : List ℕ) (es fs : List Feed-call) → accepted w ≡ true →
-    Run-of (sheet w ++ rest) es opened → Run-of (sheet w ++ other) fs opened → taken-bytes es ≡ taken-bytes fs →
-    (last-watch es opened ≡ last-watch fs opened) × (written-places es ≡ written-places fs)
+    (w rest other : List ℕ) (ls ks : List Lent) → accepted w ≡ true →
+    let r = feed-run written (sheet w ++ rest) ls in
+    let q = feed-run written (sheet w ++ other) ks in
+    r .bytes ≡ q .bytes → r ≡ q

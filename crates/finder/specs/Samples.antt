@@ -5,9 +5,9 @@ use lib.ListN.{length}
 use Rattle.automaton.specs.Ceilings.{byte-ceiling, total-ceiling}
 use Rattle.automaton.specs.Samples.{Sample, Agree, A, B, C, Z, abaab}
 use Rattle.codes.specs.Sheet.{sheet}
-use Rattle.finder.specs.Feed.{opened, Fed, feed, ending}
-use Rattle.finder.specs.Machine.{costs}
-use Rattle.finder.specs.Entry.{ending-full}
+use Rattle.runs.specs.Reading.{ending, ending-full}
+use Rattle.finder.specs.Feed.{opened, Fed, feed}
+use Rattle.finder.specs.Texts.{costs}
 
 -- the sheet of a code
 unfoldable pub prepared : (code bytes : List ℕ) → Sample
@@ -22,7 +22,7 @@ unfoldable pub searched : (code text places : List ℕ) → (bytes hits compares
 searched w ts ps n h k c =
     let f = fed-whole w ts in
     record {
-      found = f .places ∷ (f .taken ∷ f .after .hits ∷ f .after .compares ∷ total-ceiling (length w) (length ts) ∷ []) ∷ [];
+      found = f .told ∷ (f .taken ∷ f .after .hits ∷ f .after .compares ∷ total-ceiling (length w) (length ts) ∷ []) ∷ [];
       expected = ps ∷ (n ∷ h ∷ k ∷ c ∷ []) ∷ [];
     }
 
@@ -36,7 +36,7 @@ calling w cs k ps ws n e =
     let f = feed w cs k opened in
     let x = f .after in
     record {
-      found = f .places ∷ (x .state ∷ x .taken ∷ x .hits ∷ x .compares ∷ []) ∷ (f .taken ∷ ending-full (ending cs k f) ∷ []) ∷ [];
+      found = f .told ∷ (x .state ∷ x .taken ∷ x .hits ∷ x .compares ∷ []) ∷ (f .taken ∷ ending-full (ending 1 cs k f) ∷ []) ∷ [];
       expected = ps ∷ ws ∷ (n ∷ e ∷ []) ∷ [];
     }
 

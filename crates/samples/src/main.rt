@@ -7,9 +7,9 @@ mod refusals;
 
 ghost use Prim.Native.Nat.{_≤_};
 use codes::Answer;
-use finder::Ending;
 use finder::Feeding;
 use finder::Watch;
+use runs::Ending;
 
 // What each byte of a lent buffer is before a call.
 const UNTOUCHED: u8 = 238;

@@ -3,12 +3,13 @@ use mathlib.Core.Path.{_≡_}
 use mathlib.Core.List.{List}
 use Prim.Native.Nat.{ℕ}
 use lib.ListN.{length}
+use Rattle.runs.specs.Reading.{ending-refusal, ending-full}
 use Rattle.codes.specs.declared.Answer.{Answer}
 use Rattle.codes.specs.Refusals.{answer-refusal, answer-value}
 use Rattle.codes.specs.Entry.{prepare-answer, prepare-buffer}
 use Rattle.finder.specs.declared.Watch.{Watch}
 use Rattle.finder.specs.declared.Feeding.{Feeding}
-use Rattle.finder.specs.Entry.{ending-refusal, ending-full, feed-answer, feed-places}
+use Rattle.finder.specs.Entry.{Lent, feed-call}
 use Rattle.speed.specs.declared.Prepared.{Prepared}
 use Rattle.speed.specs.declared.Fed.{Fed}
 
@@ -22,8 +23,8 @@ pub record Prepare-told (code : List ℕ) (answer : Prepared) (buffer buffer-aft
   pub leaves : buffer-after ≡ prepare-buffer code buffer
 
 -- a watch from its four numbers
-abbrev pub watch-of : (state taken hits compares : ℕ) → Watch
-watch-of p n h c = record { state = p; taken = n; hits = h; compares = c }
+abbrev pub watch-from : (state taken hits compares : ℕ) → Watch
+watch-from p n h c = record { state = p; taken = n; hits = h; compares = c }
 
 -- the answer of feeding: the watch, the bytes taken and the places written in this call, and the ending
 abbrev pub fed-numbers : Feeding → Fed
@@ -39,7 +40,7 @@ fed-numbers f =
       full = ending-full (f .ending);
     }
 
--- what `speed_feed` promises of its answer and of the list after it
-pub record Feed-told (sheet : List ℕ) (x : Watch) (piece : List ℕ) (answer : Fed) (list list-after : List ℕ) : Type 0 where
-  pub answers : answer ≡ fed-numbers (feed-answer sheet x piece (length list))
-  pub leaves : list-after ≡ feed-places sheet x piece list
+-- what `speed_feed` promises of its answer and of what it was lent: feeding's call, in numbers
+pub record Feed-told (sheet : List ℕ) (x : Watch) (before : Lent) (answer : Fed) (after : Lent) : Type 0 where
+  pub answers : answer ≡ fed-numbers (feed-call sheet x before .answer)
+  pub leaves : after ≡ feed-call sheet x before .left

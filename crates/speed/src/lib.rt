@@ -1,14 +1,15 @@
 // C entries over preparing and feeding, for the benchmark: numbers in place of the watch, the answer and the ending.
 ghost use mathlib.Core.Path.{_≡_};
+ghost use Rattle.runs.specs.Reading.{ending-refusal, ending-full};
 ghost use Rattle.codes.specs.Refusals.{answer-refusal, answer-value};
-ghost use Rattle.finder.specs.Entry.{ending-refusal, ending-full};
-ghost use Rattle.speed.specs.Numbers.{prepared-numbers, Prepare-told, watch-of, fed-numbers, Feed-told};
+ghost use Rattle.finder.specs.Entry.{lent};
+ghost use Rattle.speed.specs.Numbers.{prepared-numbers, Prepare-told, watch-from, fed-numbers, Feed-told};
 use codes::Answer;
 use codes::prepare;
-use finder::Ending;
 use finder::Feeding;
 use finder::Watch;
 use finder::feed;
+use runs::Ending;
 
 // What preparing answers: the sheet's length, or 0 and the refusal's number.
 #[repr(C)]
@@ -119,7 +120,9 @@ pub extern "C" fn speed_feed(
     piece: &[u8],
     places: &mut [u32],
 ) -> Fed
-    ensures { λ r. ⌜ Feed-told (now (sheet .entry)) (watch-of state taken hits compares) (now (piece .entry)) r (now (places .entry)) (now (places .exit)) ⌝ }
+    ensures { λ r. ⌜
+        Feed-told (now (sheet .entry)) (watch-from state taken hits compares) (lent (now (piece .entry)) (now (places .entry))) r
+        (lent (now (piece .entry)) (now (places .exit))) ⌝ }
 {
     fed_numbers(feed(
         sheet,

@@ -2,6 +2,7 @@
 use mathlib.Core.Path.{_∙_, sym}
 use borrow.Author.Needs.{needs}
 use lib.ListN.{length}
+use Rattle.finder.specs.Entry.{lent}
 use Rattle.finder.proofs.Refusing.{none-refused, says-refused, says-took}
 use Rattle.finder.proofs.feed.Statement.{statement}
 use Rattle.finder.proofs.feed.Tie as tie
@@ -12,7 +13,7 @@ feed-refusal-requires c κs = search needs
 returns : tie.Need-returns
 returns c =
     let a = c .before .before .before .before .before .args in
-    says-refused (a .sheet .now) (a .watch) (a .piece .now) (a .places .now) (c .before .feed-refusal .result)
+    says-refused (a .sheet .now) (a .watch) (lent (a .piece .now) (a .places .now)) (c .before .feed-refusal .result)
     (c .before .feed-refusal .ensures) (c .if1 .taken)
 
 take-bytes-requires : tie.Need-take-bytes-requires
@@ -27,7 +28,7 @@ same-length c = search needs
 returns-2 : tie.Need-returns-2
 returns-2 c =
     let a = c .before .before .before .before .before .before .before .before .before .args in
-    says-took (a .sheet .now) (a .watch) (a .piece .now) (a .places .now)
+    says-took (a .sheet .now) (a .watch) (lent (a .piece .now) (a .places .now))
     (c .before .before .before .before .before .feed-refusal .result)
     (c .before .before .before .before .before .feed-refusal .ensures) (c .before .before .before .before .if1 .left)
     (c .before .before .take-bytes .result) _ (c .before .before .take-bytes .ensures)

@@ -2,56 +2,56 @@
 use Prim.Native.Nat.{zero-le}
 use native.Mathlib.Omega.{arith}
 use borrow.Author.Needs.{needs}
-use Rattle.finder.proofs.Turns.{turned-missed, turned-start}
+use Rattle.finder.proofs.Turns.{so-turned, so-bounds, turned-missed, so-start}
 use Rattle.finder.proofs.Reading.{room}
 use Rattle.finder.proofs.from_start.Statement.{statement}
 use Rattle.finder.proofs.from_start.Tie as tie
 
 shared-slice-read-skip : tie.Need-shared-slice-read-skip
-shared-slice-read-skip c = omega (arith, room (c .before .before .before .args .sheet .now) (c .before .before .before .pre .0 .on) 0 zero-le)
+shared-slice-read-skip c = omega (arith, room (c .before .before .before .args .sheet .now) (c .before .before .before .pre .on) 0 zero-le)
 
 skip-requires : tie.Need-skip-requires
 skip-requires c κs = search needs
 
-sub-n : tie.Need-sub-n
-sub-n c = search needs
-
-cast-n : tie.Need-cast-n
-cast-n c = search needs
-
-add-t13 : tie.Need-add-t13
-add-t13 c = search needs
-
-cast-after-run : tie.Need-cast-after-run
-cast-after-run c = search needs
-
-add-after-run : tie.Need-add-after-run
-add-after-run c = search needs
+sub-cost : tie.Need-sub-cost
+sub-cost c = search needs
 
 returns : tie.Need-returns
-returns c = let q = c .before .before .before .before .before .before .before .pre in turned-missed (q .0) (q .1) (c .before .before .before .skip .result) (c .before .before .before .skip .ensures) (omega arith)
+returns c = turned-missed (c .before .before .before .before .before .pre) (c .before .skip .result) (c .before .skip .ensures) (omega (arith, c .if1 .taken))
 
 shared-slice-read-first-step : tie.Need-shared-slice-read-first-step
 shared-slice-read-first-step c = search needs
 
 first-step-requires : tie.Need-first-step-requires
-first-step-requires c κs = let s = c .before .before .before .before .skip .ensures in (c .before .before .before .before .before .before .before .before .pre .0 .on, s .found (omega (arith, s .within, c .before .if1 .left)))
+first-step-requires c κs =
+    let s = c .before .before in
+    let e = s .skip .ensures in
+    (s .before .before .before .before .pre .on, e .found (omega (arith, e .within, c .before .if1 .left)))
 
-cast-after-run-2 : tie.Need-cast-after-run-2
-cast-after-run-2 c = search needs
+cast-come-to : tie.Need-cast-come-to
+cast-come-to c = search needs
 
-after-run-requires : tie.Need-after-run-requires
-after-run-requires c κs = search needs
+add-come-to : tie.Need-add-come-to
+add-come-to c = search needs
 
-add-t12 : tie.Need-add-t12
-add-t12 c = search needs
+add-come-to-2 : tie.Need-add-come-to-2
+add-come-to-2 c = search needs
+
+come-to-requires : tie.Need-come-to-requires
+come-to-requires c κs =
+    let f = c .before .first-step in
+    let e = c .before .before .before in
+    let s = e .before in
+    let b = so-bounds (so-start (s .before .before .before .before .pre) (s .skip .result) (s .skip .ensures) (e .if1 .left) (f .result) (f .ensures)) in
+    (b .3, b .4)
 
 returns-2 : tie.Need-returns-2
 returns-2 c =
-    let q = c .before .before .before .before .before .before .before .before .before .before .before .pre in
-    let s = c .before .before .before .before .before .before .before .skip .ensures in
-    turned-start (q .0) (q .1) (c .before .before .before .before .before .before .before .skip .result) s (omega (arith, s .within, c .before .before .before .before .if1 .left)) (c .before .before .first-step .result) (c .after-run .result)
-    (c .before .before .first-step .ensures) (c .after-run .ensures)
+    let f = c .before .before .first-step in
+    let e = c .before .before .before .before in
+    let s = e .before in
+    so-turned (so-start (s .before .before .before .before .pre) (s .skip .result) (s .skip .ensures) (e .if1 .left) (f .result) (f .ensures))
+    (c .come-to .result) (c .come-to .ensures)
 
 pub from-start-spec : {M : Type 1} → statement M
 from-start-spec =
@@ -59,15 +59,12 @@ from-start-spec =
     (tie.spec
     shared-slice-read-skip
     skip-requires
-    sub-n
-    cast-n
-    add-t13
-    cast-after-run
-    add-after-run
+    sub-cost
     returns
     shared-slice-read-first-step
     first-step-requires
-    cast-after-run-2
-    after-run-requires
-    add-t12
+    cast-come-to
+    add-come-to
+    add-come-to-2
+    come-to-requires
     returns-2)

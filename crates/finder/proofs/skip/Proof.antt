@@ -4,7 +4,7 @@ use Prim.Native.Nat.{_+_, _-_}
 use native.Mathlib.Omega.{arith}
 use borrow.Author.Needs.{needs}
 use lib.ListN.{length}
-use Rattle.finder.proofs.Turns.{Passed, passed-none, passed-next, passed-found, passed-on}
+use Rattle.finder.proofs.Skipping.{Passed, passed-none, passed-next, passed-found, passed-on}
 use Rattle.finder.proofs.skip.Statement.{statement}
 use Rattle.finder.proofs.skip.Tie as tie
 

@@ -3,7 +3,7 @@ use mathlib.Core.Path.{refl}
 use Prim.Native.Nat.{_-_}
 use borrow.Author.Needs.{needs}
 use lib.ListN.{length}
-use Rattle.finder.proofs.Turns.{Passed, passed-none, passed-next, passed-found, passed-end}
+use Rattle.finder.proofs.Skipping.{Passed, passed-none, passed-next, passed-found, passed-end}
 use Rattle.finder.proofs.skip_one.Statement.{statement}
 use Rattle.finder.proofs.skip_one.Tie as tie
 

@@ -1,23 +1,24 @@
 -- `take_bytes` meets its contract. The loop keeps that the bytes taken and the places written come before what is fed of the rest. Assumes nothing.
 use mathlib.Core.Path.{_∙_}
+use mathlib.Core.Logic.{⊎-elim}
 use Prim.Native.Nat.{_-_, zero-le}
 use native.Mathlib.Omega.{arith}
 use borrow.Author.Needs.{needs}
+use borrow.Author.Tests.{ltb-true, ltb-false}
 use lib.ListN.{length}
-use Rattle.finder.proofs.Taking.{turning, Taking, taking-start, answer-done, answer-full, turn-hit, turn-miss}
+use Rattle.finder.proofs.Taking.{Loop, loop-start, loop-bounds, answer-done, answer-full, turning, turn-hit, turn-miss}
 use Rattle.finder.proofs.Reading.{room, read-size}
 use Rattle.finder.proofs.take_bytes.Statement.{statement}
 use Rattle.finder.proofs.take_bytes.Tie as tie
 
 abbrev Inv-loop : tie.InvT-loop
-Inv-loop sheet piece places₀ m x₀ i₀ k₀ places x i k = Taking sheet x₀ piece places₀ m x i k places
+Inv-loop sheet watch piece places₀ m state₀ cost₀ i₀ k₀ places state cost i k = Loop sheet watch piece places₀ m state cost i k places
 
 abbrev μ-loop : tie.MeasureT-loop
-μ-loop sheet piece places₀ m x₀ i₀ k₀ places x i k = length piece - i
+μ-loop sheet watch piece places₀ m state₀ cost₀ i₀ k₀ places state cost i k = length piece - i
 
 shared-slice-read-wide : tie.Need-shared-slice-read-wide Inv-loop μ-loop
-shared-slice-read-wide c =
-    omega (arith, room (c .before .before .before .before .args .sheet .now) (c .before .before .before .before .pre .0) 0 zero-le)
+shared-slice-read-wide c = omega (arith, room (c .before .before .before .before .args .sheet .now) (c .before .before .before .before .pre .0) 0 zero-le)
 
 wide-requires : tie.Need-wide-requires Inv-loop μ-loop
 wide-requires c κs = search needs
@@ -27,72 +28,84 @@ cast-m c = search needs
 
 loop-holds : tie.Need-loop-holds Inv-loop μ-loop
 loop-holds c =
-    let a = c .before .before .before .before .before .args in
     let q = c .before .before .before .before .before .pre in
-    taking-start (c .wide .result) (q .0) (q .1) (c .wide .ensures .0 ∙ read-size (a .sheet .now) (q .0))
-
-cast-t15 : tie.Need-cast-t15 Inv-loop μ-loop
-cast-t15 c = let t = c .before .before .loop .inv in omega (arith, t .within, t .short)
-
-cast-t16 : tie.Need-cast-t16 Inv-loop μ-loop
-cast-t16 c = let t = c .before .before .loop .inv in omega (arith, t .within, t .fewer, t .short)
-
-same-length : tie.Need-same-length Inv-loop μ-loop
-same-length c = c .before .before .loop .inv .size
-
-returns : tie.Need-returns Inv-loop μ-loop
-returns c = answer-full (c .before .before .loop .inv) (c .before .loop-test .taken) (c .if1 .taken)
+    loop-start (c .wide .result) (q .0) (q .1) (c .wide .ensures .0 ∙ read-size (c .before .before .before .before .before .args .sheet .now) (q .0))
 
 advance-requires : tie.Need-advance-requires Inv-loop μ-loop
 advance-requires c κs = turning (c .before .before .loop .inv) (c .before .loop-test .taken)
 
-sub-places : tie.Need-sub-places Inv-loop μ-loop
-sub-places c =
-    let t = c .before .before .before .before .before .before .before .loop .inv in
-    let v = c .before .before .before .before .advance .ensures in
-    omega (arith, v .ready .read, c .before .if2 .taken)
+add-cost : tie.Need-add-cost Inv-loop μ-loop
+add-cost c =
+    let t = c .before .before .before .before .loop .inv in
+    let v = c .before .advance .ensures .leads in
+    omega (arith, t .ready .cheap, t .cheap, v .cheap, v .on, v .within)
+
+enum-known-found : tie.Need-enum-known-found Inv-loop μ-loop
+enum-known-found c = search needs
 
 mul-places : tie.Need-mul-places Inv-loop μ-loop
-mul-places c =
-    let t = c .before .before .before .before .before .before .before .loop .inv in
-    omega (arith, t .fewer, t .within, t .short)
+mul-places c = let b = loop-bounds (c .before .before .before .before .before .before .before .loop .inv) in omega (arith, b .0, b .1, b .2)
 
 slice-write-places : tie.Need-slice-write-places Inv-loop μ-loop
 slice-write-places c = search needs
 
 add-k : tie.Need-add-k Inv-loop μ-loop
-add-k c =
-    let t = c .before .before .before .before .before .before .before .loop .inv in
-    omega (arith, t .fewer, t .within, t .short)
+add-k c = let b = loop-bounds (c .before .before .before .before .before .before .before .loop .inv) in omega (arith, b .0, b .1, b .2)
 
 loop-less : tie.Need-loop-less Inv-loop μ-loop
-loop-less c = let v = c .before .before .before .before .advance .ensures in omega (arith, v .later, v .within)
+loop-less c = let v = c .before .before .before .before .advance .ensures in omega (arith, v .later, v .leads .within)
 
 loop-again : tie.Need-loop-again Inv-loop μ-loop
 loop-again c =
-    turn-hit (c .before .before .before .before .before .before .before .loop .inv)
-    (c .before .before .before .before .before .if1 .left) (c .before .before .before .before .advance .result)
-    (c .before .before .before .before .advance .ensures) (c .before .if2 .taken)
+    let a = c .before .before .before .before in
+    let b = a .before in
+    turn-hit (b .before .before .loop .inv) (ltb-true _ _ (b .if1 .taken)) (a .advance .result) (a .advance .ensures) _ (c .before .found .given .1)
+
+enum-told : tie.Need-enum-told Inv-loop μ-loop
+enum-told c = search needs
 
 loop-less-2 : tie.Need-loop-less-2 Inv-loop μ-loop
-loop-less-2 c = let v = c .before .before .before .advance .ensures in omega (arith, v .later, v .within)
+loop-less-2 c = let v = c .before .before .before .advance .ensures in omega (arith, v .later, v .leads .within)
 
 loop-again-2 : tie.Need-loop-again-2 Inv-loop μ-loop
 loop-again-2 c =
-    turn-miss (c .before .before .before .before .before .before .loop .inv) (c .before .before .before .before .if1 .left)
-    (c .before .before .before .advance .result) (c .before .before .before .advance .ensures) (c .if2 .left)
+    let a = c .before .before .before in
+    let b = a .before in
+    turn-miss (b .before .before .loop .inv) (ltb-true _ _ (b .if1 .taken)) (a .advance .result) (a .advance .ensures) (c .enum-told .given .1)
 
-cast-t21 : tie.Need-cast-t21 Inv-loop μ-loop
-cast-t21 c = let t = c .before .loop .inv in omega (arith, t .within, t .short)
+cast-t24 : tie.Need-cast-t24 Inv-loop μ-loop
+cast-t24 c = let b = loop-bounds (c .before .before .loop .inv) in omega (arith, b .0, b .1)
 
-cast-t22 : tie.Need-cast-t22 Inv-loop μ-loop
-cast-t22 c = let t = c .before .loop .inv in omega (arith, t .within, t .fewer, t .short)
+add-t25 : tie.Need-add-t25 Inv-loop μ-loop
+add-t25 c = let b = loop-bounds (c .before .before .before .loop .inv) in omega (arith, b .1)
 
-same-length-2 : tie.Need-same-length-2 Inv-loop μ-loop
-same-length-2 c = c .before .loop .inv .size
+cast-t26 : tie.Need-cast-t26 Inv-loop μ-loop
+cast-t26 c = let b = loop-bounds (c .before .before .before .loop .inv) in omega (arith, b .0, b .1, b .2)
 
-returns-2 : tie.Need-returns-2 Inv-loop μ-loop
-returns-2 c = answer-done (c .before .loop .inv) (c .loop-test .left)
+add-t27 : tie.Need-add-t27 Inv-loop μ-loop
+add-t27 c = let b = loop-bounds (c .before .before .before .before .loop .inv) in omega (arith, b .1, b .2, b .3)
+
+add-t28 : tie.Need-add-t28 Inv-loop μ-loop
+add-t28 c = let b = loop-bounds (c .before .before .before .before .before .loop .inv) in omega (arith, b .4)
+
+cast-t30 : tie.Need-cast-t30 Inv-loop μ-loop
+cast-t30 c = let b = loop-bounds (c .before .before .before .before .before .loop .inv) in omega (arith, b .0, b .1)
+
+cast-t31 : tie.Need-cast-t31 Inv-loop μ-loop
+cast-t31 c = let b = loop-bounds (c .before .before .before .before .before .loop .inv) in omega (arith, b .0, b .1, b .2)
+
+same-length : tie.Need-same-length Inv-loop μ-loop
+same-length c = c .before .before .before .before .before .loop .inv .front .size
+
+returns : tie.Need-returns Inv-loop μ-loop
+returns c =
+    let t = c .before .before .before .before .before .loop .inv in
+    ⊎-elim
+    (λ v.
+    answer-full t (c .before .before .before .if2 .ending) (v .1) (v .0 .taken)
+    (⊎-elim (λ u. ltb-false _ _ (u .1 .left)) (λ u. absurd (omega (arith, v .0 .taken, u .left))) (c .before .before .before .before .loop-test .came)))
+    (λ v. answer-done t (c .before .before .before .if2 .ending) (v .1) (v .0 .left))
+    (c .before .before .before .if2 .came)
 
 pub take-bytes-spec : {M : Type 1} → statement M
 take-bytes-spec =
@@ -104,20 +117,23 @@ take-bytes-spec =
     wide-requires
     cast-m
     loop-holds
-    cast-t15
-    cast-t16
-    same-length
-    returns
     advance-requires
-    sub-places
+    add-cost
+    enum-known-found
     mul-places
     slice-write-places
     add-k
     loop-less
     loop-again
+    enum-told
     loop-less-2
     loop-again-2
-    cast-t21
-    cast-t22
-    same-length-2
-    returns-2)
+    cast-t24
+    add-t25
+    cast-t26
+    add-t27
+    add-t28
+    cast-t30
+    cast-t31
+    same-length
+    returns)

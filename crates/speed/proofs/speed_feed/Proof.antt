@@ -1,7 +1,18 @@
 -- `speed_feed` meets its contract: feeding's own, in numbers. Assumes nothing.
+use mathlib.Core.Path.{_≡_, ap, _∙_}
+use mathlib.Core.List.{List}
+use Prim.Native.Nat.{ℕ}
 use borrow.Author.Needs.{needs}
+use Rattle.finder.specs.declared.Watch.{Watch}
+use Rattle.finder.specs.declared.Feeding.{Feeding}
+use Rattle.finder.specs.Entry.{Lent, Feed-call, Feed-says}
+use Rattle.speed.specs.declared.Fed.{Fed}
+use Rattle.speed.specs.Numbers.{fed-numbers, Feed-told}
 use Rattle.speed.proofs.speed_feed.Statement.{statement}
 use Rattle.speed.proofs.speed_feed.Tie as tie
+
+told : {s : List ℕ} {x : Watch} {l : Lent} {r : Feeding} {a : Lent} {n : Fed} → Feed-says s x l r a → n ≡ fed-numbers r → Feed-told s x l n a
+told f e = record { answers = e ∙ ap (λ (i : Feed-call). fed-numbers (i .answer)) (f .is); leaves = ap (λ (i : Feed-call). i .left) (f .is) }
 
 feed-requires : tie.Need-feed-requires
 feed-requires c κs = search needs
@@ -13,7 +24,7 @@ same-length : tie.Need-same-length
 same-length c = search needs
 
 returns : tie.Need-returns
-returns c = record { answers = cc; leaves = cc }
+returns c = told (c .before .before .before .feed .ensures) (c .fed-numbers .ensures)
 
 pub speed-feed-spec : {M : Type 1} → statement M
 speed-feed-spec = tie.close (tie.spec feed-requires fed-numbers-requires same-length returns)
