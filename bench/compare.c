@@ -186,7 +186,8 @@ int main(int argc, char **argv)
 
     compare_feeding(t);
     compare_preparing(t);
-    printf("\nNanoseconds of processor time for each byte of a text (%.0f MB, pieces of %d bytes, a list of %d places) or of a code, best of %d rounds (codes: %d).\n"
+    printf("\nNanoseconds of processor time for each byte of a text (%.0f MB, pieces of %d bytes, a list of %d places) or of a code, best of %d rounds "
+           "(codes: %d).\n"
            "before/after: the median of the rounds; over 1 it is faster now. In a round the fastest of a build's %d copies counts.\n"
            "Sheets, places, comparisons and watches are the same before and after.\n",
            (double)s.n / 1e6, PIECE, LIST, t.rounds, t.rounds * MORE, COPIES);

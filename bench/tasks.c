@@ -99,11 +99,12 @@ struct found feed_text(feeder *feed, const struct search *s, int checking)
     static uint32_t places[LIST];
     struct found r = {0};
     struct fed f = {0};
+    size_t room = checking ? SHORT : LIST;
     size_t at = 0;
 
     while (at < s->n) {
         size_t length = s->n - at < PIECE ? s->n - at : PIECE;
-        f = feed(s->sheet, s->sheet_length, f.state, f.taken, f.hits, f.compares, s->text + at, length, places, LIST);
+        f = feed(s->sheet, s->sheet_length, f.state, f.taken, f.hits, f.compares, s->text + at, length, places, room);
         if (f.refusal != 0)
             stop("a feeding was refused", "");
         at += f.read;
@@ -119,7 +120,8 @@ struct found feed_text(feeder *feed, const struct search *s, int checking)
 }
 
 const struct shape shapes[SHAPES] = {
-    {"a^m", one_letter}, {"ab^(m-1)", ab_text}, {"Fibonacci", fibonacci_word}, {"ruler", ruler_word}, {"random, 2 letters", random_2}, {"random bytes", random_256},
+    {"a^m", one_letter}, {"ab^(m-1)", ab_text}, {"Fibonacci", fibonacci_word},
+    {"ruler", ruler_word}, {"random, 2 letters", random_2}, {"random bytes", random_256},
 };
 
 const size_t lengths[LENGTHS] = {1, 2, 4, 8, 16, 32, 64, 128, 255};

@@ -8,6 +8,7 @@
 enum {
     PIECE = 4096, /* bytes of text to a feeding */
     LIST = 4096,  /* places to a feeding */
+    SHORT = 61,   /* the same where places are checked, so that the list is full at times */
 };
 
 /* A text and a code to look for in it: a word, the first m bytes of another text, or m bytes of the text's own middle. */

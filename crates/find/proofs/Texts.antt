@@ -5,7 +5,6 @@ use mathlib.Core.List.{List, [], _∷_, _++_, append-nil, append-assoc}
 use Prim.Native.Nat.{ℕ, zero, suc, _+_, _*_, _-_, _/_, _≤_, _<_}
 use native.Mathlib.Omega.{arith}
 use borrow.Author.Tests.{lt-ltb, le-ltb}
-use lib.Dec.{eqb}
 use lib.ListN.{length, take, drop, length-append, length-drop, take-append-drop}
 use lib.Seq.{length-take-le, take-all, take-append-seam, drop-append-seam}
 use Rattle.words.proofs.Tests.{by-le}
@@ -17,13 +16,12 @@ use Rattle.codes.specs.Refusals.{refused-if, first-refusal}
 use Rattle.codes.specs.Codes.{accepted}
 use Rattle.codes.specs.Sheet.{sheet}
 use Rattle.codes.proofs.Sheets.{sheet-named}
-use Rattle.finder.specs.declared.Watch.{Watch}
 use Rattle.finder.specs.Feed.{opened, feeder, feed}
 use Rattle.finder.specs.Machine.{found-after, call-refusal}
 use Rattle.finder.specs.Texts.{places, watch-of}
 use Rattle.finder.specs.Entry.{feed-refusal}
 use Rattle.finder.proofs.Places.{reported-one}
-use Rattle.finder.proofs.Texts.{opened-of, piece-read}
+use Rattle.finder.proofs.Texts.{opened-of, piece-reads}
 use Rattle.finder.proofs.Entries.{same-refusal}
 use Rattle.forms.specs.Text.{place-form, place-forms, refused-form}
 use Rattle.find.specs.Printed.{piece-size, last, end-of, piece-form}
@@ -109,8 +107,8 @@ module _ (w rest : List ℕ) (good : accepted w ≡ true) where
         let f = feed w c piece-size (watch-of w bs) in (f .after ≡ watch-of w (bs ++ c)) × (f .told ≡ places-after bs c)
     piece-whole h =
         let n : ℕ = feed w c piece-size (watch-of w bs) .taken in
-        let all : take n c ≡ c = take-all n c (omega (arith, takes-whole (feeder w) (reported-one w) refl c piece-size (watch-of w bs) h)) in
-        let r = rw all at (piece-read w c piece-size bs) in
+        let all : take n c ≡ c = take-all n c (omega (arith, takes-whole (feeder w) (reported-one w) c piece-size (watch-of w bs) (omega arith))) in
+        let r = rw all at (piece-reads w c piece-size bs) in
         (r .state, r .tells)
 
     piece-printed : length c ≤ piece-size → length bs + length c ≤ longest-text → (cs : List (List ℕ)) →

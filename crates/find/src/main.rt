@@ -5,7 +5,7 @@ mod system;
 
 ghost use mathlib.Core.Path.{_≡_};
 ghost use mathlib.Core.Bool.{true, false};
-ghost use Prim.Native.Nat.{_+_, _*_, _≤_};
+ghost use Prim.Native.Nat.{_+_, _≤_};
 ghost use lib.ListN.{length, take};
 ghost use Rattle.runs.specs.Reading.{ending-refusal};
 ghost use Rattle.finder.specs.Feed.{opened};

@@ -21,13 +21,13 @@ use Rattle.codes.proofs.Entries.{prepare-makes}
 use Rattle.finder.specs.declared.Watch.{Watch}
 use Rattle.finder.specs.declared.Feeding.{Feeding}
 use Rattle.finder.specs.Feed.{opened, Fed, feed}
-use Rattle.finder.specs.Machine.{machine-start, call-refusal, machine-call, machine-refusals}
+use Rattle.finder.specs.Machine.{call-refusal, machine-call, machine-refusals}
 use Rattle.finder.specs.Texts.{places, watch-of}
-use Rattle.finder.specs.Entry.{Lent, Feed-call, feed-refusal, call-by, feed-call, Feed-says, feeding, feed-run, written, refused, plain}
-use Rattle.finder.specs.Promise.{Behind-unread, Runs-grow, Entries-counted, Entries-count, Prepared-count, Entries-alike}
+use Rattle.finder.specs.Entry.{Lent, Feed-call, feed-refusal, call-by, feed-call, Feed-says, feeding, feed-run, told-places, told-refusal, plain}
+use Rattle.finder.specs.Promise.{Behind-unread, Runs-grow, Entries-count, Prepared-count, Entries-alike}
 use Rattle.finder.proofs.Places.{places-stand-in}
-use Rattle.finder.proofs.Texts.{machine-of, opened-of, start-of, Read, call-read, machine-call-read}
-use Rattle.finder.proofs.Promises.{counted-of, Opened, from-opened, counted, watch-is, text-is, told-is, found-is, alike}
+use Rattle.finder.proofs.Texts.{machine-of, opened-of, machine-start-of, Watch-reads, call-read, machine-call-read}
+use Rattle.finder.proofs.Promises.{counted-of, Opened, run-opened, counted, watch-is, text-is, told-is, found-is, alike}
 
 -- ONE CALL of the entry point, by its refusal: it has answered and left what was fed
 pub record As-fed (n : ℕ) (f : Fed) (e : Feed-call) : Type 0 where
@@ -60,14 +60,17 @@ says-fed {bs} {x} {l} s = rw (s .is) (as-fed (feed-refusal bs x (length (l .piec
 -- A CALLER'S OWN CALLS
 pub runs-grow : Runs-grow
 unfolding Runs-grow
-runs-grow f bs ls l r a s =
-    let q = feed-run f bs ls in
-    run-snoc (feeding f bs) ls l opened
-    ∙ ap
-    {B = Outcome Watch ℕ}
-    (λ (e : Feed-call).
-    record { after = e .answer .watch; bytes = q .bytes ++ take (e .answer .taken) (l .piece); told = q .told ++ f e })
-    (sym (s .is))
+runs-grow f bs = (
+  unfold run in refl,
+  λ ls l r a s.
+      let q = feed-run f bs ls in
+      run-snoc (feeding f bs) ls l opened
+      ∙ ap
+      {B = Outcome Watch ℕ}
+      (λ (e : Feed-call).
+      record { after = e .answer .watch; bytes = q .bytes ++ take (e .answer .taken) (l .piece); told = q .told ++ f e })
+      (sym (s .is)),
+)
 
 module _ (w rest : List ℕ) (good : accepted w ≡ true) where
   -- 4 and 5 never come up
@@ -88,7 +91,7 @@ module _ (w rest : List ℕ) (good : accepted w ≡ true) where
   unfolding feed-call
   call-is ts l = rw (same-refusal (plain l) ts, sheet-named) (as-fed (call-refusal (plain l) (length ts)) w (watch-of w ts) l)
 
-  reads : (ts : List ℕ) (l : Lent) → Read w ts (bytes ts l) (answer ts l .answer .watch) (written (answer ts l))
+  reads : (ts : List ℕ) (l : Lent) → Watch-reads w ts (bytes ts l) (answer ts l .answer .watch) (told-places (answer ts l))
   unfolding called
   reads ts l = let q = call-is ts l in rw (q .watch, q .taken, q .told) (call-read w ts (plain l))
 
@@ -96,12 +99,12 @@ module _ (w rest : List ℕ) (good : accepted w ≡ true) where
   unfolding called
   goes ts l = rw (call-is ts l .taken) (machine-call-read w ts (plain l))
 
-  pub entries : (ls : List Lent) → Opened w (feeding written (sheet w ++ rest)) plain ls
-  entries = from-opened w (feeding written (sheet w ++ rest)) plain reads goes
+  pub entries : (ls : List Lent) → Opened w (feeding told-places (sheet w ++ rest)) plain ls
+  entries = run-opened w (feeding told-places (sheet w ++ rest)) plain reads goes
 
   -- the refusals are the machine's
   refuses-from : (ls : List Lent) (ts : List ℕ) →
-      run (feeding refused (sheet w ++ rest)) ls (watch-of w ts) .told ≡ machine-refusals w (map plain ls) (machine-of w ts)
+      run (feeding told-refusal (sheet w ++ rest)) ls (watch-of w ts) .told ≡ machine-refusals w (map plain ls) (machine-of w ts)
   unfolding run machine-refusals
   refuses-from [] ts = refl
   refuses-from (l ∷ ls) ts =
@@ -113,9 +116,9 @@ unfolding Entries-count
 entries-count w rest ls good =
     let o = entries w rest good ls in
     let some : 1 ≤ length w = accepted-bounds w good .0 in
-    let stand = places-stand-in w (feed-run written (sheet w ++ rest) ls .bytes) some in
+    let stand = places-stand-in w (feed-run told-places (sheet w ++ rest) ls .bytes) some in
     record {
-      refusals = rw (opened-of w, start-of w) (refuses-from w rest good ls []);
+      refused = rw (opened-of w, machine-start-of w) (refuses-from w rest good ls []);
       counted = counted o some;
       watch = watch-is o;
       text = text-is o;

@@ -1,4 +1,4 @@
--- Fitness of a watch, test by test, and the refusals of feeding in their order. Assumes nothing.
+-- Fitness of a watch, test by test, and what a fit one can take. Assumes nothing.
 use mathlib.Core.Path.{_≡_}
 use mathlib.Core.Bool.{Bool, true, false, _&&_}
 use Prim.Native.Nat.{ℕ, _+_, _*_, _≤_, _<_}

@@ -1,5 +1,5 @@
 -- Bytes of a piece lead from state to state: none, one, one stretch after another, and those that are passed in state 0. Assumes nothing.
-use mathlib.Core.Path.{_≡_, refl, sym, ap, _∙_}
+use mathlib.Core.Path.{_≡_, refl, sym, _∙_}
 use mathlib.Core.Logic.{_≢_}
 use mathlib.Core.List.{List, [], _∷_}
 use Prim.Native.Nat.{ℕ, zero, suc, _+_, _-_, _≤_, _<_}
@@ -7,11 +7,13 @@ use native.Mathlib.Nat.{min-le-left, add-zero, sub-zero}
 use native.Mathlib.Numerals.{add-one}
 use native.Mathlib.Omega.{arith}
 use borrow.Author.Tests.{eq-eqb, ne-eqb}
+use lib.Dec.{eqb}
 use lib.ListN.{length, getD, drop, drop-of-length-le}
 use lib.Seq.{drop-cons}
 use Rattle.words.specs.Words.{byte}
 use Rattle.words.proofs.Lists.{every-at}
-use Rattle.runs.specs.Reading.{place-if, fed, fed-more}
+use Rattle.runs.specs.Reading.{fed-more}
+use Rattle.runs.proofs.Places.{place-some, place-none}
 use Rattle.runs.proofs.Feeds.{more-none, more-more, feed-end, feed-on}
 use Rattle.automaton.specs.declared.Step.{Step}
 use Rattle.automaton.specs.Arrows.{stepped}
@@ -29,12 +31,12 @@ use Rattle.finder.specs.Inside.{led, Leads}
 -- PLACES
 module _ (m q n : ℕ) where
   pub completed-one : q ≡ m → completed m q n ≡ (n - m) ∷ []
-  unfolding completed place-if
-  completed-one e = rw (eq-eqb q m e)
+  unfolding completed
+  completed-one e = place-some (eqb q m) (n - m) (eq-eqb q m e)
 
   pub completed-none : q ≢ m → completed m q n ≡ []
-  unfolding completed place-if
-  completed-none d = rw (ne-eqb q m d)
+  unfolding completed
+  completed-none d = place-none (eqb q m) (n - m) (ne-eqb q m d)
 
 -- a byte costs at most 256 comparisons
 pub step-cheap : (w : List ℕ) (p c : ℕ) → p ≤ length w → length w ≤ longest-code → stepped w p c .cost ≤ 256

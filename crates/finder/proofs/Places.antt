@@ -45,7 +45,7 @@ module _ (w ts : List ℕ) where
       Rising (places w ts) × ((i : ℕ) → (member i (places w ts) ≡ true) ↔ (take (length w) (drop i ts) ≡ w))
   unfolding found-after
   places-stand-in some =
-      let right = found.places-right (length w) (λ us. ends-with us w (length w)) (λ us e. ends-is us w (length w) e .fits) some ts in (
+      let right = found.found-right (length w) (λ us. ends-with us w (length w)) (λ us e. ends-is us w (length w) e .fits) some ts in (
         right .0,
         λ i. (
           (λ h. let p = right .1 i .0 h in end-stands i (p .0) (p .1)),
@@ -53,9 +53,9 @@ module _ (w ts : List ℕ) where
         ),
       )
 
-pub places-few : (w ts : List ℕ) → length (places w ts) ≤ length ts
+pub few-places : (w ts : List ℕ) → length (places w ts) ≤ length ts
 unfolding found-after
-places-few w ts = found.found-few (length w) (λ us. ends-with us w (length w)) [] ts
+few-places w ts = found.found-few (length w) (λ us. ends-with us w (length w)) [] ts
 
 -- a byte reports none or one
 pub reported-one : (w : List ℕ) (c : ℕ) (x : Watch) → length (reported w c x) ≤ 1

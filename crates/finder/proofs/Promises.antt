@@ -1,15 +1,11 @@
 -- The promises about runs: the watch and the machine after any run are those of the bytes taken. Assumes nothing.
 use mathlib.Core.Path.{_≡_, refl, sym, ap, _∙_}
-use mathlib.Core.Bool.{true, _&&_}
 use mathlib.Core.List.{List, [], _∷_, _++_, append-nil, append-assoc, map, map-id}
 use Prim.Native.Nat.{ℕ, _+_, _*_, _≤_}
-use native.Mathlib.Omega.{arith}
-use lib.Dec.{leb}
 use lib.ListN.{length}
 use lib.Seq.{append-snoc}
 use borrow.Author.Tests.{le-leb}
 use Rattle.words.specs.Words.{Every, state-of}
-use Rattle.words.proofs.Tests.{and-both}
 use Rattle.words.proofs.Lists.{length-snoc}
 use Rattle.words.proofs.Largest.{state-is}
 use Rattle.runs.specs.Reading.{over}
@@ -21,22 +17,23 @@ use Rattle.automaton.proofs.PaperArrows.{step-state}
 use Rattle.automaton.proofs.TotalCeiling.{Running, running-start, running-byte, running-below, running-twice}
 use Rattle.automaton.proofs.ByteCeiling.{byte-below}
 use Rattle.finder.specs.declared.Watch.{Watch}
-use Rattle.finder.specs.Feed.{opened, fit}
-use Rattle.finder.specs.Machine.{Machine, machine-start, cost-after, found-after, machine-call, machine-after}
+use Rattle.finder.specs.Feed.{opened}
+use Rattle.finder.specs.Machine.{Machine, cost-after, found-after, machine-call, machine-after}
 use Rattle.finder.specs.Texts.{places, costs, sum, watch-of}
-use Rattle.finder.specs.Promise.{Counted, after, Runs-count, Text-taken, Alike-count, Places-told, Places-right, Places-stand}
-use Rattle.finder.proofs.Places.{places-few, places-stand-in}
-use Rattle.finder.proofs.Texts.{machine-of, state-nil, opened-of, start-of, costs-snoc, Read, plain-call, call-read, machine-call-read}
+use Rattle.finder.specs.Promise.{Counted, machine-run, Runs-count, Text-taken, Alike-count, Places-told, Places-right, Places-stand}
+use Rattle.finder.proofs.Fitness.{fit-compares}
+use Rattle.finder.proofs.Places.{few-places, places-stand-in}
+use Rattle.finder.proofs.Texts.{machine-of, state-nil, opened-of, machine-start-of, costs-snoc, Watch-reads, plain-call, call-read, machine-call-read}
 
 -- THE COSTS OF A TEXT keep to both ceilings
-costs-below : (w bs ts : List ℕ) → Every (λ k. k ≤ byte-ceiling w) (costs w bs ts)
+costs-below : (w bs ts : List ℕ) → Every (λ k. k ≤ byte-ceiling w) (over (λ us c. cost-after w us c ∷ []) bs ts)
 unfolding over cost-after Byte-below
 costs-below w bs [] = tt
 costs-below w bs (c ∷ ts) = (byte-below w (state-of w bs) c (state-is w bs .bound), costs-below w (bs ++ (c ∷ [])) ts)
 
 module _ (w : List ℕ) (some : 1 ≤ length w) where
   abbrev Kept : (text : List ℕ) → Type 0
-  Kept ts = Running w (length ts) (state-of w ts) (sum (costs w [] ts))
+  Kept ts = Running w (length ts) (state-of w ts) (sum (costs w ts))
 
   kept-more : (bs ts : List ℕ) → Kept bs → Kept (bs ++ ts)
   unfolding cost-after
@@ -44,25 +41,16 @@ module _ (w : List ℕ) (some : 1 ≤ length w) where
   kept-more bs (c ∷ ts) r =
       rw append-snoc at
       (kept-more (bs ++ (c ∷ [])) ts
-      (rw (length-snoc, ← step-state, costs-snoc) (running-byte w (length bs) (state-of w bs) (sum (costs w [] bs)) c some r)))
+      (rw (length-snoc, ← step-state, costs-snoc) (running-byte w (length bs) (state-of w bs) (sum (costs w bs)) c some r)))
 
   kept : (ts : List ℕ) → Kept ts
   unfolding over sum
   kept ts = kept-more [] ts (rw (state-nil w) (running-start w))
 
-fit-is : (l : ℕ) (x : Watch) →
-    x .state ≤ l → x .state ≤ x .taken → x .hits ≤ x .taken → x .compares ≤ 2 * x .taken → fit l x ≡ true
-unfolding fit
-fit-is l x a b c d =
-    let n = x .taken in
-    and-both (leb (x .state) l && leb (x .state) n) (leb (x .hits) n && leb (x .compares) (2 * n))
-    (and-both (leb (x .state) l) (leb (x .state) n) (le-leb (x .state) l a) (le-leb (x .state) n b))
-    (and-both (leb (x .hits) n) (leb (x .compares) (2 * n)) (le-leb (x .hits) n c) (le-leb (x .compares) (2 * n) d))
-
 -- THE WATCH AND THE MACHINE OF A TEXT have all that the third demand asks
 pub counted-of : (w ts : List ℕ) → 1 ≤ length w → Counted w (watch-of w ts) (machine-of w ts)
 counted-of w ts some =
-    let n : ℕ = sum (costs w [] ts) in
+    let n : ℕ = sum (costs w ts) in
     let r = kept w some ts in
     record {
       bytes = refl;
@@ -72,7 +60,9 @@ counted-of w ts some =
       adds = refl;
       each-below = costs-below w [] ts;
       total-below = running-below w (length ts) (state-of w ts) n some r;
-      fits = fit-is (length w) (watch-of w ts) (r .state) (r .reached) (places-few w ts) (running-twice w (length ts) (state-of w ts) n some r);
+      fits =
+          sym (fit-compares (length w) (watch-of w ts) (r .state) (r .reached) (few-places w ts))
+          ∙ le-leb n (2 * length ts) (running-twice w (length ts) (state-of w ts) n some r);
     }
 
 -- A RUN from an opening on, of any entry point, and the plain machine beside it: both have come to the bytes taken
@@ -81,12 +71,12 @@ outcome-of w ts = record { after = watch-of w ts; bytes = ts; told = places w ts
 
 pub record Opened (w : List ℕ) {C : Type 0} (entry : C → Watch → Outcome Watch ℕ) (plain : C → Call) (cs : List C) : Type 0 where
   pub ran : run entry cs opened ≡ outcome-of w (run entry cs opened .bytes)
-  pub machine : after w (map plain cs) ≡ machine-of w (run entry cs opened .bytes)
+  pub machine : machine-run w (map plain cs) ≡ machine-of w (run entry cs opened .bytes)
 
 -- where each call does with the watch of a text what a plain one does
 module _
     (w : List ℕ) {C : Type 0} (entry : C → Watch → Outcome Watch ℕ) (plain : C → Call)
-    (reads : (ts : List ℕ) (c : C) → let e = entry c (watch-of w ts) in Read w ts (e .bytes) (e .after) (e .told))
+    (reads : (ts : List ℕ) (c : C) → let e = entry c (watch-of w ts) in Watch-reads w ts (e .bytes) (e .after) (e .told))
     (goes : (ts : List ℕ) (c : C) → machine-call w (plain c) (machine-of w ts) ≡ machine-of w (ts ++ entry c (watch-of w ts) .bytes)) where
   machine-runs : (cs : List C) (ts : List ℕ) →
       machine-after w (map plain cs) (machine-of w ts) ≡ machine-of w (ts ++ run entry cs (watch-of w ts) .bytes)
@@ -98,13 +88,13 @@ module _
       ap (machine-after w (map plain cs)) (goes ts c) ∙ machine-runs cs (ts ++ bs)
       ∙ ap (machine-of w) (append-assoc ts bs (all (watch-of w (ts ++ bs))) ∙ ap (λ (x : Watch). ts ++ (bs ++ all x)) (sym (reads ts c .state)))
 
-  pub from-opened : (cs : List C) → Opened w entry plain cs
-  from-opened cs =
+  pub run-opened : (cs : List C) → Opened w entry plain cs
+  run-opened cs =
       let u = run-right (watch-of w) (found-after w) entry reads cs [] in
       let bs : List ℕ = run entry cs (watch-of w []) .bytes in
       record {
         ran = rw (opened-of w) (λ i. record { after = u .state i; bytes = bs; told = u .tells i });
-        machine = rw (opened-of w) (ap (machine-after w (map plain cs)) (start-of w) ∙ machine-runs cs []);
+        machine = rw (opened-of w) (ap (machine-after w (map plain cs)) (machine-start-of w) ∙ machine-runs cs []);
       }
 
 -- what follows of the bytes taken: the third demand, the second, and that nothing else counts
@@ -112,16 +102,16 @@ module _ {w : List ℕ} {C : Type 0} {entry : C → Watch → Outcome Watch ℕ}
   pub watch-is : run entry cs opened .after ≡ watch-of w (run entry cs opened .bytes)
   watch-is = ap (λ (r : Outcome Watch ℕ). r .after) (o .ran)
 
-  pub counted : 1 ≤ length w → Counted w (run entry cs opened .after) (after w (map plain cs))
+  pub counted : 1 ≤ length w → Counted w (run entry cs opened .after) (machine-run w (map plain cs))
   counted some = rw (watch-is, o .machine) (counted-of w (run entry cs opened .bytes) some)
 
-  pub text-is : run entry cs opened .bytes ≡ after w (map plain cs) .text
+  pub text-is : run entry cs opened .bytes ≡ machine-run w (map plain cs) .text
   text-is = sym (ap (λ (m : Machine). m .text) (o .machine))
 
   pub told-is : run entry cs opened .told ≡ places w (run entry cs opened .bytes)
   told-is = ap (λ (r : Outcome Watch ℕ). r .told) (o .ran)
 
-  pub found-is : run entry cs opened .told ≡ after w (map plain cs) .found
+  pub found-is : run entry cs opened .told ≡ machine-run w (map plain cs) .found
   found-is = told-is ∙ sym (ap (λ (m : Machine). m .found) (o .machine))
 
 pub alike : {w : List ℕ} {C : Type 0} {p q : C → Watch → Outcome Watch ℕ} {plain : C → Call} {cs ds : List C} →
@@ -130,7 +120,7 @@ alike {w} o u e = o .ran ∙ ap (outcome-of w) e ∙ sym (u .ran)
 
 -- THE PROMISES about plain calls
 calls : (w : List ℕ) (cs : List Call) → Opened w (plain-call w) (λ c. c) cs
-calls w cs = from-opened w (plain-call w) (λ c. c) (call-read w) (machine-call-read w) cs
+calls w cs = run-opened w (plain-call w) (λ c. c) (call-read w) (machine-call-read w) cs
 
 pub runs-count : Runs-count
 unfolding Runs-count
@@ -154,4 +144,4 @@ places-right w cs = sym (places-told w cs) ∙ told-is (calls w cs) ∙ ap (plac
 
 pub places-stand : Places-stand
 unfolding Places-stand Places-right
-places-stand w cs some = rw (places-right w cs) (places-stand-in w (after w cs .text) some)
+places-stand w cs some = rw (places-right w cs) (places-stand-in w (machine-run w cs .text) some)

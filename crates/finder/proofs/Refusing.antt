@@ -117,5 +117,5 @@ module _ (bs : List ℕ) (x : Watch) (l : Lent) (n : ℕ) (e : n ≡ feed-refusa
       by-number (suc j) z = unfold call-by in refl
 
   pub says-took : n ≡ 0 → (r : Feeding) (a : Lent) → Took (named bs) x l r a → Feed-says bs x l r a
-  unfolding Took feed-call call-by
-  says-took z r a t = record { is = rw (sym e ∙ z) t }
+  unfolding feed-call call-by
+  says-took z r a t = record { is = rw (sym e ∙ z) (t .is) }

@@ -1,6 +1,6 @@
 -- The loop over a piece: the bytes taken and the places written so far come before what is fed of the rest. Assumes nothing.
 use mathlib.Core.Path.{_≡_, refl, sym, _∙_}
-use mathlib.Core.List.{List, [], _∷_, _++_, append-nil}
+use mathlib.Core.List.{List, _++_, append-nil}
 use Prim.Native.Nat.{ℕ, suc, _+_, _*_, _-_, _^_, _≤_, _<_}
 use native.Mathlib.Nat.{add-zero}
 use native.Mathlib.Omega.{arith}
@@ -9,7 +9,7 @@ use Rattle.runs.specs.declared.Ending.{Ending}
 use Rattle.runs.specs.declared.Ending.the-variants.{PieceDone, ListFull}
 use Rattle.runs.specs.Reading.{longest-text, fed, ending}
 use Rattle.runs.proofs.Feeds.{Taking, taking-start, taking-more, taking-done, taking-full, ending-list, ending-done}
-use Rattle.runs.proofs.Fronts.{Front, front-none, front-more, front-length, front-take, front-all}
+use Rattle.runs.proofs.Fronts.{Front, front-none, front-next, front-length, front-take, front-all}
 use Rattle.codes.specs.Sheet.{named, in-front}
 use Rattle.finder.specs.declared.Watch.{Watch}
 use Rattle.finder.specs.declared.Found.the-variants.{At, Nothing}
@@ -65,11 +65,14 @@ module _ {bs : List ℕ} {x : Watch} {piece ps₀ : List ℕ} {m q c i k : ℕ} 
   answer : (e : Ending) → feed (named bs) piece (length ps₀) x ≡ fed (led x q i k c) i (take k ps) →
       e ≡ ending 1 piece (length ps₀) (fed (led x q i k c) i (take k ps)) →
       Took (named bs) x (lent piece ps₀) (record { watch = led x q i k c; taken = i; written = k; ending = e }) (lent piece ps)
-  unfolding Took in-front
+  unfolding in-front
   answer e f g =
-      rw f
-      (λ j.
-      record { answer = record { watch = led x q i k c; taken = i; written = sym size j; ending = g j }; left = lent piece (front-all (t .front) j) })
+      record {
+        is =
+            rw f
+            (λ j.
+            record { answer = record { watch = led x q i k c; taken = i; written = sym size j; ending = g j }; left = lent piece (front-all (t .front) j) });
+      }
 
   pub answer-done : (e : Ending) → e ≡ PieceDone → length piece ≤ i →
       Took (named bs) x (lent piece ps₀) (record { watch = led x q i k c; taken = i; written = k; ending = e }) (lent piece ps)
@@ -114,7 +117,7 @@ module _ {bs : List ℕ} {x : Watch} {piece ps₀ : List ℕ} {m q c i k : ℕ} 
 
     pub turn-hit : (place : ℕ) → u .found ≡ At place → Loop bs x piece ps₀ m (u .state) (c + u .cost) (u .at) (k + 1) (set ps k place)
     turn-hit place e =
-        turn (k + 1) (set ps k place) (rw e refl) (omega arith) (front-more (t .front) place r) (rw e (sym (front-take (t .front) place r)))
+        turn (k + 1) (set ps k place) (rw e refl) (omega arith) (front-next (t .front) place r) (rw e (sym (front-take (t .front) place r)))
 
     pub turn-miss : u .found ≡ Nothing → Loop bs x piece ps₀ m (u .state) (c + u .cost) (u .at) k ps
     turn-miss e = turn k ps (rw e (sym (add-zero k))) (omega arith) (t .front) (rw e (append-nil (take k ps)))

@@ -1,5 +1,5 @@
 -- The watch and the plain machine of a text: a byte, a piece and a call lead from those of one text to those of the longer one. Assumes nothing.
-use mathlib.Core.Path.{_≡_, refl, sym, ap, _∙_}
+use mathlib.Core.Path.{_≡_, refl, ap, _∙_}
 use mathlib.Core.Bool.{Bool, true, false, cond}
 use mathlib.Core.List.{List, [], _∷_, _++_, append-nil}
 use Prim.Native.Nat.{ℕ, zero, suc, _+_, _-_}
@@ -14,7 +14,7 @@ use Rattle.runs.specs.Reading.{over, fed, fed-more}
 use Rattle.runs.specs.Calls.{Outcome, Call, unless-refused, called}
 use Rattle.runs.proofs.Over.{over-snoc}
 use Rattle.runs.proofs.Feeds.{feed-end, feed-stop, feed-on}
-use Rattle.runs.proofs.Texts.{Came, feed-right, called-right}
+use Rattle.runs.proofs.Texts.{Reads, feed-right, called-right}
 use Rattle.automaton.proofs.PaperArrows.{step-state}
 use Rattle.finder.specs.declared.Watch.{Watch}
 use Rattle.finder.specs.Feed.{opened, completed, reported, with-byte, feeder, feed}
@@ -22,7 +22,7 @@ use Rattle.finder.specs.Machine.{Machine, machine, machine-start, cost-a
 use Rattle.finder.specs.Texts.{places, costs, sum, watch-of}
 
 abbrev pub machine-of : (w text : List ℕ) → Machine
-machine-of w ts = machine ts (sum (costs w [] ts)) (places w ts)
+machine-of w ts = machine ts (sum (costs w ts)) (places w ts)
 
 sum-snoc : (ns : List ℕ) (n : ℕ) → sum (ns ++ (n ∷ [])) ≡ sum ns + n
 unfolding sum
@@ -37,17 +37,17 @@ pub opened-of : (w : List ℕ) → opened ≡ watch-of w []
 unfolding over sum
 opened-of w = rw (state-nil w) refl
 
-pub start-of : (w : List ℕ) → machine-start ≡ machine-of w []
+pub machine-start-of : (w : List ℕ) → machine-start ≡ machine-of w []
 unfolding over sum
-start-of w = refl
+machine-start-of w = refl
 
 -- A BYTE MORE: what the watch reports is what the machine finds, and both go on
 module _ (w ts : List ℕ) (c : ℕ) where
   places-snoc : places w (ts ++ (c ∷ [])) ≡ places w ts ++ found-after w ts c
   places-snoc = over-snoc (found-after w) ts c
 
-  pub costs-snoc : sum (costs w [] (ts ++ (c ∷ []))) ≡ sum (costs w [] ts) + cost-after w ts c
-  costs-snoc = ap sum (over-snoc (λ us b. cost-after w us b ∷ []) ts c) ∙ sum-snoc (costs w [] ts) (cost-after w ts c)
+  pub costs-snoc : sum (costs w (ts ++ (c ∷ []))) ≡ sum (costs w ts) + cost-after w ts c
+  costs-snoc = ap sum (over-snoc (λ us b. cost-after w us b ∷ []) ts c) ∙ sum-snoc (costs w ts) (cost-after w ts c)
 
   tells : reported w c (watch-of w ts) ≡ found-after w ts c
   unfolding reported completed found-after
@@ -63,12 +63,12 @@ module _ (w ts : List ℕ) (c : ℕ) where
 
 module _ (w : List ℕ) where
   -- what a reading of bytes bs that began after ts has come to
-  abbrev pub Read : (ts bs : List ℕ) → Watch → (told : List ℕ) → Type 0
-  Read ts bs x ps = Came (watch-of w) (found-after w) ts bs x ps
+  abbrev pub Watch-reads : (ts bs : List ℕ) → Watch → (told : List ℕ) → Type 0
+  Watch-reads ts bs x ps = Reads (watch-of w) (found-after w) ts bs x ps
 
   -- A PIECE: both take the same bytes
-  pub piece-read : (cs : List ℕ) (k : ℕ) (ts : List ℕ) → let f = feed w cs k (watch-of w ts) in Read ts (take (f .taken) cs) (f .after) (f .told)
-  piece-read = feed-right (watch-of w) (found-after w) (feeder w) (follows w) (tells w)
+  pub piece-reads : (cs : List ℕ) (k : ℕ) (ts : List ℕ) → let f = feed w cs k (watch-of w ts) in Watch-reads ts (take (f .taken) cs) (f .after) (f .told)
+  piece-reads = feed-right (watch-of w) (found-after w) (feeder w) (follows w) (tells w)
 
   machine-read : (cs : List ℕ) (k : ℕ) (ts : List ℕ) →
       machine-piece w cs k (machine-of w ts) ≡ machine-of w (ts ++ take (feed w cs k (watch-of w ts) .taken) cs)
@@ -86,7 +86,7 @@ module _ (w : List ℕ) where
   abbrev pub plain-call : Call → Watch → Outcome Watch ℕ
   plain-call c x = called (feeder w) (λ b y. call-refusal b (y .taken)) c x
 
-  pub call-read : (ts : List ℕ) (c : Call) → let e = plain-call c (watch-of w ts) in Read ts (e .bytes) (e .after) (e .told)
+  pub call-read : (ts : List ℕ) (c : Call) → let e = plain-call c (watch-of w ts) in Watch-reads ts (e .bytes) (e .after) (e .told)
   call-read ts c = called-right (watch-of w) (found-after w) (feeder w) (follows w) (tells w) (λ b y. call-refusal b (y .taken)) c ts
 
   pub machine-call-read : (ts : List ℕ) (c : Call) → machine-call w c (machine-of w ts) ≡ machine-of w (ts ++ plain-call c (watch-of w ts) .bytes)

@@ -2,20 +2,18 @@
 use mathlib.Core.Path.{_≡_, refl, sym, _∙_}
 use mathlib.Core.Logic.{_≢_}
 use mathlib.Core.List.{List, []}
-use Prim.Native.Nat.{ℕ, _+_, _*_, _-_, _≤_, _<_, zero-le}
+use Prim.Native.Nat.{ℕ, _+_, _*_, _-_, _≤_, _<_}
 use native.Mathlib.Omega.{arith}
 use lib.ListN.{length, getD}
-use Rattle.words.specs.Words.{byte}
 use Rattle.runs.specs.Reading.{longest-text}
 use Rattle.automaton.specs.declared.Step.{Step}
 use Rattle.automaton.specs.Arrows.{stepped}
-use Rattle.automaton.proofs.Steps.{step-bounds}
 use Rattle.codes.specs.Sheet.{named}
 use Rattle.finder.specs.declared.Found.{Found}
 use Rattle.finder.specs.declared.Found.the-variants.{At, Nothing}
 use Rattle.finder.specs.declared.Turn.{Turn}
 use Rattle.finder.specs.Feed.{completed}
-use Rattle.finder.specs.Inside.{found-list, Skipped, Turning, Leads, Come-to, Turned}
+use Rattle.finder.specs.Inside.{Skipped, Turning, Leads, Come-to, Turned}
 use Rattle.finder.proofs.Reading.{read-code}
 use Rattle.finder.proofs.Leading.{completed-one, completed-none, step-cheap, leads-byte, leads-on, leads-missed}
 

@@ -12,7 +12,7 @@ use Rattle.codes.specs.Refusals.{refused-if, first-refusal}
 use Rattle.codes.specs.Sheet.{named, begins, in-front}
 use Rattle.finder.specs.declared.Watch.{Watch}
 use Rattle.finder.specs.declared.Feeding.{Feeding}
-use Rattle.finder.specs.Feed.{opened, fit, Fed, feed}
+use Rattle.finder.specs.Feed.{opened, fit, spots, Fed, feed}
 
 -- WHAT A CALL IS LENT: a piece of text, and a list for its places
 pub record Lent : Type 0 where
@@ -41,7 +41,7 @@ feed-refusal bs x l k =
 abbrev pub fed-call : Fed → Lent → Feed-call
 fed-call f l =
     record {
-      answer = record { watch = f .after; taken = f .taken; written = length (f .told); ending = ending 1 (l .piece) (length (l .list)) f };
+      answer = record { watch = f .after; taken = f .taken; written = length (f .told); ending = ending spots (l .piece) (length (l .list)) f };
       left = lent (l .piece) (in-front (f .told) (l .list));
     }
 
@@ -60,19 +60,19 @@ feed-call bs x l = call-by (feed-refusal bs x (length (l .piece)) (length (l .li
 pub record Feed-says (buffer : List ℕ) (x : Watch) (before : Lent) (answer : Feeding) (after : Lent) : Type 0 where
   pub is : record { answer = answer; left = after } ≡ feed-call buffer x before
 
--- A RUN from an opening on: every call gets the buffer and the watch answered before. Told is a part of each call: the places that it wrote, or its refusal, 0
--- for none
+-- A RUN from an opening on: every call gets the buffer and the watch answered before. Told is a part of each call: the places that it wrote, or its
+-- refusal, 0 for none
 abbrev pub feeding : (part : Feed-call → List ℕ) → (buffer : List ℕ) → Lent → Watch → Outcome Watch ℕ
 feeding f bs l x = let e = feed-call bs x l in record { after = e .answer .watch; bytes = take (e .answer .taken) (l .piece); told = f e }
 
 abbrev pub feed-run : (part : Feed-call → List ℕ) → (buffer : List ℕ) → List Lent → Outcome Watch ℕ
 feed-run f bs ls = run (feeding f bs) ls opened
 
-abbrev pub written : Feed-call → List ℕ
-written e = take (e .answer .written) (e .left .list)
+abbrev pub told-places : Feed-call → List ℕ
+told-places e = take (e .answer .written) (e .left .list)
 
-abbrev pub refused : Feed-call → List ℕ
-refused e = ending-refusal (e .answer .ending) ∷ []
+abbrev pub told-refusal : Feed-call → List ℕ
+told-refusal e = ending-refusal (e .answer .ending) ∷ []
 
 -- what is lent, as the plain machine sees it
 abbrev pub plain : Lent → Call

@@ -36,9 +36,12 @@ with-byte w c x =
       compares = x .compares + stepped w (x .state) c .cost;
     }
 
--- FEEDING: a reader that needs one free place before a byte
+-- FEEDING: a reader that needs one free spot in the list before a byte
+abbrev pub spots : ℕ
+spots = 1
+
 abbrev pub feeder : (w : List ℕ) → Reader Watch ℕ
-feeder w = record { byte = with-byte w; tells = reported w; needs = 1 }
+feeder w = record { byte = with-byte w; tells = reported w; needs = spots }
 
 abbrev pub Fed : Type 0
 Fed = reading.Fed Watch ℕ

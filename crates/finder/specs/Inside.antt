@@ -80,5 +80,5 @@ pub record Turned (w piece : List ℕ) (before p i : ℕ) (t : Turn) : Type 0 wh
   pub leads : Leads w piece before p i (t .state) (t .cost) (t .at) (found-list (t .found))
 
 -- a piece was taken: the call is one that is not refused
-unfoldable pub Took : (w : List ℕ) → Watch → (before : Lent) → (answer : Feeding) → (after : Lent) → Type 0
-Took w x b r a = record { answer = r; left = a } ≡ fed-call (feed w (b .piece) (length (b .list)) x) b
+pub record Took (w : List ℕ) (x : Watch) (before : Lent) (answer : Feeding) (after : Lent) : Type 0 where
+  pub is : record { answer = answer; left = after } ≡ fed-call (feed w (before .piece) (length (before .list)) x) before

@@ -1,5 +1,6 @@
--- THE PLAIN MACHINE of document 01: a text, a total and the places found. It never sees a watch, and shares nothing with feeding but the automaton's step
--- and what a call is lent: it is the independent paper that the watch is held against. Assumes nothing: these are definitions.
+-- THE PLAIN MACHINE of document 01: a text, a total and the places found. It never sees a watch: it is the independent paper that the watch is held against.
+-- With feeding it shares the automaton's step, none or one place (`place-if`), what a call is lent, and how refusals are listed. Assumes nothing: these are
+-- definitions.
 use mathlib.Core.Bool.{cond}
 use mathlib.Core.List.{List, [], _∷_, _++_}
 use Prim.Native.Nat.{ℕ, zero, suc, _+_, _-_}

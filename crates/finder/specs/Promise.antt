@@ -20,7 +20,7 @@ use Rattle.finder.specs.declared.Feeding.{Feeding}
 use Rattle.finder.specs.Feed.{opened, fit, feeder, feed}
 use Rattle.finder.specs.Machine.{Machine, machine-start, call-refusal, machine-after, machine-refusals}
 use Rattle.finder.specs.Texts.{places, costs, sum, watch-of}
-use Rattle.finder.specs.Entry.{Lent, Feed-call, feed-refusal, feed-call, Feed-says, feed-run, written, refused, plain}
+use Rattle.finder.specs.Entry.{Lent, Feed-call, feed-refusal, feed-call, Feed-says, feed-run, told-places, told-refusal, plain}
 
 -- THE THIRD DEMAND: a watch has what the plain machine has, and the machine's costs keep to both ceilings
 pub record Counted (w : List ℕ) (x : Watch) (m : Machine) : Type 0 where
@@ -28,24 +28,24 @@ pub record Counted (w : List ℕ) (x : Watch) (m : Machine) : Type 0 where
   pub state : x .state ≡ state-of w (m .text)
   pub hits : x .hits ≡ length (m .found)
   pub compares : x .compares ≡ m .total
-  pub adds : m .total ≡ sum (costs w [] (m .text))
-  pub each-below : Every (λ k. k ≤ byte-ceiling w) (costs w [] (m .text))
+  pub adds : m .total ≡ sum (costs w (m .text))
+  pub each-below : Every (λ k. k ≤ byte-ceiling w) (costs w (m .text))
   pub total-below : m .total ≤ total-ceiling (length w) (length (m .text))
   pub fits : fit (length w) x ≡ true
 
 -- A LIST OF CALLS from an opening on, refused ones among them: the machine after it, and the run of the definitions
-abbrev pub after : (w : List ℕ) → List Call → Machine
-after w cs = machine-after w cs machine-start
+abbrev pub machine-run : (w : List ℕ) → List Call → Machine
+machine-run w cs = machine-after w cs machine-start
 
 abbrev pub plain-run : (w : List ℕ) → List Call → Outcome Watch ℕ
 plain-run w cs = run (called (feeder w) (λ c x. call-refusal c (x .taken))) cs opened
 
 unfoldable pub Runs-count : Type 0
-Runs-count = (w : List ℕ) (cs : List Call) → 1 ≤ length w → Counted w (plain-run w cs .after) (after w cs)
+Runs-count = (w : List ℕ) (cs : List Call) → 1 ≤ length w → Counted w (plain-run w cs .after) (machine-run w cs)
 
 -- the machine's text is the bytes taken
 unfoldable pub Text-taken : Type 0
-Text-taken = (w : List ℕ) (cs : List Call) → after w cs .text ≡ plain-run w cs .bytes
+Text-taken = (w : List ℕ) (cs : List Call) → machine-run w cs .text ≡ plain-run w cs .bytes
 
 -- lists alike in the code and the bytes taken end alike, in the watch and in the places
 unfoldable pub Alike-count : Type 0
@@ -60,18 +60,18 @@ Bytes-passed =
 
 -- THE SECOND DEMAND: the places that the calls write are those that the plain machine finds
 unfoldable pub Places-told : Type 0
-Places-told = (w : List ℕ) (cs : List Call) → plain-run w cs .told ≡ after w cs .found
+Places-told = (w : List ℕ) (cs : List Call) → plain-run w cs .told ≡ machine-run w cs .found
 
--- those are found byte by byte, where the text so far ends with the code
+-- those are found byte by byte, each where a byte has come: how the list comes about. That these are the places is Places-stand
 unfoldable pub Places-right : Type 0
-Places-right = (w : List ℕ) (cs : List Call) → after w cs .found ≡ places w (after w cs .text)
+Places-right = (w : List ℕ) (cs : List Call) → machine-run w cs .found ≡ places w (machine-run w cs .text)
 
 -- they rise, and i is one of them exactly when the bytes of the text from i on are the code
 unfoldable pub Places-stand : Type 0
 Places-stand =
     (w : List ℕ) (cs : List Call) → 1 ≤ length w →
-    Rising (after w cs .found)
-    × ((i : ℕ) → (member i (after w cs .found) ≡ true) ↔ (take (length w) (drop i (after w cs .text)) ≡ w))
+    Rising (machine-run w cs .found)
+    × ((i : ℕ) → (member i (machine-run w cs .found) ≡ true) ↔ (take (length w) (drop i (machine-run w cs .text)) ≡ w))
 
 -- an ending has its refusal's number; list full: the list is full and bytes of the piece are left; piece done: all its bytes were taken
 unfoldable pub Endings-told : Type 0
@@ -105,22 +105,26 @@ Feeding-goes-on =
 -- A CALLER'S OWN CALLS are a run: it begins with an opening and nothing taken, and a call of `feed` that gets the last watch makes it one longer
 unfoldable pub Runs-grow : Type 0
 Runs-grow =
-    (part : Feed-call → List ℕ) (buffer : List ℕ) (ls : List Lent) (l : Lent) (r : Feeding) (a : Lent) →
+    (part : Feed-call → List ℕ) (buffer : List ℕ) →
+    (feed-run part buffer [] ≡ record { after = opened; bytes = []; told = [] })
+    × ((ls : List Lent) (l : Lent) (r : Feeding) (a : Lent) →
     let q = feed-run part buffer ls in
     Feed-says buffer (q .after) l r a →
     feed-run part buffer (ls ++ (l ∷ []))
-    ≡ record { after = r .watch; bytes = q .bytes ++ take (r .taken) (l .piece); told = q .told ++ part (record { answer = r; left = a }) }
+    ≡ record { after = r .watch; bytes = q .bytes ++ take (r .taken) (l .piece); told = q .told ++ part (record { answer = r; left = a }) })
 
 -- THE ENTRY POINTS. What the answers of `feed` come to over a run, whatever its calls are lent: the third demand, and the second
-pub record Entries-counted (w buffer : List ℕ) (ls : List Lent) : Type 0 where
-  pub refusals : feed-run refused buffer ls .told ≡ machine-refusals w (map plain ls) machine-start
-  pub counted : Counted w (feed-run written buffer ls .after) (after w (map plain ls))
-  pub watch : feed-run written buffer ls .after ≡ watch-of w (feed-run written buffer ls .bytes)
-  pub text : feed-run written buffer ls .bytes ≡ after w (map plain ls) .text
-  pub places : feed-run written buffer ls .told ≡ after w (map plain ls) .found
-  pub rise : Rising (feed-run written buffer ls .told)
-  pub stand :
-      (i : ℕ) → (member i (feed-run written buffer ls .told) ≡ true) ↔ (take (length w) (drop i (feed-run written buffer ls .bytes)) ≡ w)
+pub record Run-counted (w : List ℕ) (cs : List Call) (r : Outcome Watch ℕ) (refusals : List ℕ) : Type 0 where
+  pub refused : refusals ≡ machine-refusals w cs machine-start
+  pub counted : Counted w (r .after) (machine-run w cs)
+  pub watch : r .after ≡ watch-of w (r .bytes)
+  pub text : r .bytes ≡ machine-run w cs .text
+  pub places : r .told ≡ machine-run w cs .found
+  pub rise : Rising (r .told)
+  pub stand : (i : ℕ) → (member i (r .told) ≡ true) ↔ (take (length w) (drop i (r .bytes)) ≡ w)
+
+abbrev pub Entries-counted : (w buffer : List ℕ) → List Lent → Type 0
+Entries-counted w bs ls = Run-counted w (map plain ls) (feed-run told-places bs ls) (feed-run told-refusal bs ls .told)
 
 -- on a buffer that begins with the sheet of an accepted code
 unfoldable pub Entries-count : Type 0
@@ -135,6 +139,6 @@ Prepared-count =
 unfoldable pub Entries-alike : Type 0
 Entries-alike =
     (w rest other : List ℕ) (ls ks : List Lent) → accepted w ≡ true →
-    let r = feed-run written (sheet w ++ rest) ls in
-    let q = feed-run written (sheet w ++ other) ks in
+    let r = feed-run told-places (sheet w ++ rest) ls in
+    let q = feed-run told-places (sheet w ++ other) ks in
     r .bytes ≡ q .bytes → r ≡ q

@@ -6,7 +6,7 @@ use Rattle.automaton.specs.Ceilings.{byte-ceiling, total-ceiling}
 use Rattle.automaton.specs.Samples.{Sample, Agree, A, B, C, Z, abaab}
 use Rattle.codes.specs.Sheet.{sheet}
 use Rattle.runs.specs.Reading.{ending, ending-full}
-use Rattle.finder.specs.Feed.{opened, Fed, feed}
+use Rattle.finder.specs.Feed.{opened, spots, Fed, feed}
 use Rattle.finder.specs.Texts.{costs}
 
 -- the sheet of a code
@@ -28,7 +28,7 @@ searched w ts ps n h k c =
 
 -- the costs of a text's bytes, one by one; the byte ceiling
 unfoldable pub costing : (code text each : List ℕ) → (ceiling : ℕ) → Sample
-costing w ts ks n = record { found = costs w [] ts ∷ (byte-ceiling w ∷ []) ∷ []; expected = ks ∷ (n ∷ []) ∷ [] }
+costing w ts ks n = record { found = costs w ts ∷ (byte-ceiling w ∷ []) ∷ []; expected = ks ∷ (n ∷ []) ∷ [] }
 
 -- one call with a list of so many places: the places written; the watch's four numbers; the bytes taken, and 1 for list full
 unfoldable pub calling : (code piece : List ℕ) → (room : ℕ) → (places watch : List ℕ) → (taken full : ℕ) → Sample
@@ -36,7 +36,7 @@ calling w cs k ps ws n e =
     let f = feed w cs k opened in
     let x = f .after in
     record {
-      found = f .told ∷ (x .state ∷ x .taken ∷ x .hits ∷ x .compares ∷ []) ∷ (f .taken ∷ ending-full (ending 1 cs k f) ∷ []) ∷ [];
+      found = f .told ∷ (x .state ∷ x .taken ∷ x .hits ∷ x .compares ∷ []) ∷ (f .taken ∷ ending-full (ending spots cs k f) ∷ []) ∷ [];
       expected = ps ∷ ws ∷ (n ∷ e ∷ []) ∷ [];
     }
 

@@ -11,9 +11,9 @@ use Rattle.finder.specs.Machine.{cost-after, found-after}
 abbrev pub places : (w text : List ℕ) → List ℕ
 places w ts = over (found-after w) [] ts
 
--- the costs of the bytes, one by one, after what stands before the text
-abbrev pub costs : (w before text : List ℕ) → List ℕ
-costs w bs ts = over (λ us c. cost-after w us c ∷ []) bs ts
+-- the costs of the bytes, one by one
+abbrev pub costs : (w text : List ℕ) → List ℕ
+costs w ts = over (λ bs c. cost-after w bs c ∷ []) [] ts
 
 unfoldable pub sum : List ℕ → ℕ
 sum [] = 0
@@ -21,4 +21,4 @@ sum (n ∷ ns) = n + sum ns
 
 -- the watch, whatever the pieces in which the text came
 abbrev pub watch-of : (w text : List ℕ) → Watch
-watch-of w ts = record { state = state-of w ts; taken = length ts; hits = length (places w ts); compares = sum (costs w [] ts) }
+watch-of w ts = record { state = state-of w ts; taken = length ts; hits = length (places w ts); compares = sum (costs w ts) }

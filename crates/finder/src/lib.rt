@@ -1,7 +1,7 @@
 // Feeding: the watch (the scan's state), and one pass over the pieces of a text, a byte at a time.
 // The order of comparisons is one that Hancart's theorem 4.6 covers: the backward labels first, by falling target, then the forward label.
 ghost use mathlib.Core.Path.{_≡_};
-ghost use Prim.Native.Nat.{_+_, _-_, _^_, _≤_, _<_};
+ghost use Prim.Native.Nat.{_+_, _-_, _≤_, _<_};
 ghost use lib.ListN.{length, getD};
 ghost use Rattle.runs.specs.Reading.{longest-text};
 ghost use Rattle.automaton.specs.Arrows.{try-forward, stepped};
@@ -248,7 +248,7 @@ fn advance(sheet: &[u8], m: u32, before: u32, p: u32, piece: &[u8], i: usize) ->
 fn take_bytes(sheet: &[u8], watch: Watch, piece: &[u8], places: &mut [u32]) -> Feeding
     requires { ⌜ On-sheet (now sheet) × Ready (length (named (now sheet))) watch (length (now piece)) ⌝ }
     ensures { λ r. ⌜
-        Took (named (now (sheet .entry))) watch (lent (now (piece .entry)) (now (places .entry))) r (lent (now (piece .entry)) (now (places .exit))) ⌝ }
+        Took (named (now (sheet .entry))) watch (lent (now (piece .entry)) (now (places .entry))) r (lent (now (piece .exit)) (now (places .exit))) ⌝ }
 {
     let m = wide(sheet[0]) as u32;
     let mut state = watch.state;
@@ -322,7 +322,7 @@ fn feed_refusal(sheet: &[u8], x: Watch, piece: usize, room: usize) -> u32
 // from the opening) are written to the list's start, and the rest of the list stays. A refusal answers the watch as it was and changes nothing.
 pub fn feed(sheet: &[u8], watch: Watch, piece: &[u8], places: &mut [u32]) -> Feeding
     ensures { λ r. ⌜
-        Feed-says (now (sheet .entry)) watch (lent (now (piece .entry)) (now (places .entry))) r (lent (now (piece .entry)) (now (places .exit))) ⌝ }
+        Feed-says (now (sheet .entry)) watch (lent (now (piece .entry)) (now (places .entry))) r (lent (now (piece .exit)) (now (places .exit))) ⌝ }
 {
     let refusal = feed_refusal(sheet, watch, piece.len(), places.len());
     if refusal != 0 {

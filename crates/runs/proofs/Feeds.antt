@@ -2,11 +2,13 @@
 use mathlib.Core.Path.{_≡_, refl, sym, ap, _∙_}
 use mathlib.Core.Bool.{Bool, true, false, _&&_, cond, and-false}
 use mathlib.Core.List.{List, [], _∷_, _++_, append-nil, append-assoc}
-use Prim.Native.Nat.{ℕ, zero, suc, _+_, _-_, _≤_, _<_}
+use Prim.Native.Nat.{ℕ, suc, _+_, _*_, _-_, _≤_, _<_}
 use native.Mathlib.Nat.{add-zero, sub-zero}
+use native.Mathlib.Numerals.{add-one}
 use native.Mathlib.Omega.{arith}
 use lib.Dec.{ltb}
-use lib.ListN.{length, drop, length-append, drop-of-length-le}
+use lib.ListN.{length, getD, drop, length-append, drop-of-length-le}
+use lib.Seq.{drop-cons}
 use borrow.Author.Tests.{lt-ltb, le-ltb, ltb-true}
 use Rattle.words.proofs.Tests.{by-le, and-left, and-right}
 use Rattle.runs.specs.declared.Ending.the-variants.{PieceDone, ListFull}
@@ -45,7 +47,7 @@ module _ {X A : Type 0} (d : Reader X A) where
   feed-on c cs k x h = rw (le-ltb k (d .needs) h) refl
 
   -- a fact of what is fed: of nothing, whether the piece has ended or too few spots are free, and of a byte and what comes after it
-  feed-cases : (P : (piece : List ℕ) → (room : ℕ) → X → Fed X A → Type 0) →
+  pub feed-cases : (P : (piece : List ℕ) → (room : ℕ) → X → Fed X A → Type 0) →
       ((k : ℕ) (x : X) → P [] k x (fed x 0 [])) →
       ((c : ℕ) (cs : List ℕ) (k : ℕ) (x : X) → k < d .needs → P (c ∷ cs) k x (fed x 0 [])) →
       ((c : ℕ) (cs : List ℕ) (k : ℕ) (x : X) (f : Fed X A) → d .needs ≤ k → P cs (k - length (d .tells c x)) (d .byte c x) f →
@@ -84,11 +86,14 @@ module _ {X A : Type 0} (d : Reader X A) where
         feed-cases (λ cs k x f. length (f .told) ≤ k) (λ k x. omega arith) (λ c cs k x h. omega arith)
         (λ c cs k x f h u. omega (arith, few c x, length-append (d .tells c x) (f .told)))
 
-    pub takes-whole : d .needs ≡ 1 → (cs : List ℕ) (k : ℕ) (x : X) → length cs ≤ k → feed d cs k x .taken ≡ length cs
+    pub takes-whole : (cs : List ℕ) (k : ℕ) (x : X) → d .needs * length cs ≤ k → feed d cs k x .taken ≡ length cs
     unfolding fed-more
-    takes-whole one =
-        feed-cases (λ cs k x f. length cs ≤ k → f .taken ≡ length cs) (λ k x l. refl) (λ c cs k x h l. absurd (omega arith))
-        (λ c cs k x f h u l. omega (arith, u (omega (arith, few c x))))
+    takes-whole =
+        feed-cases (λ cs k x f. d .needs * length cs ≤ k → f .taken ≡ length cs) (λ k x l. refl) (λ c cs k x h l. absurd (omega (arith, split (length cs))))
+        (λ c cs k x f h u l. omega (arith, u (omega (arith, few c x, split (length cs)))))
+      where
+        split : (n : ℕ) → d .needs * suc n ≡ d .needs + d .needs * n
+        split n = omega arith
 
 -- ITS ENDING, from where it stopped
 module _ {X A : Type 0} (n : ℕ) (cs : List ℕ) (k : ℕ) (f : Fed X A) where
@@ -152,6 +157,15 @@ module _ {X A : Type 0} {d : Reader X A} {x₀ : X} {piece : List ℕ} {room : �
             ∙ more-more i (j - i) told ps (feed d (drop j piece) (room - length told - length ps) y)
             ∙ rw (left, sum) refl;
       }
+
+  -- one byte more
+  pub taking-byte : i < length piece → d .needs ≤ room - length told →
+      let c = getD piece i 0 in Taking d x₀ piece room (d .byte c x) (i + 1) (told ++ d .tells c x)
+  taking-byte h spare =
+      let c : ℕ = getD piece i 0 in
+      let one : i + 1 - i ≡ 1 = omega arith in
+      taking-more (i + 1) (d .byte c x) (d .tells c x) (omega arith) (omega arith)
+      (rw (drop-cons piece i 0 h, one, add-one i) (feed-on d c (drop (suc i) piece) (room - length told) x spare))
 
   -- the end, with the piece or with the list
   pub taking-done : length piece ≤ i → feed d piece room x₀ ≡ fed x i told

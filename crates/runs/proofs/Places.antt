@@ -1,5 +1,5 @@
 -- The places found in a text, byte by byte: they rise, and i is one of them exactly when the text up to i + m ends as asked. Assumes nothing.
-use mathlib.Core.Path.{_≡_, refl, sym, ap, _∙_}
+use mathlib.Core.Path.{_≡_, refl, sym, _∙_}
 use mathlib.Core.Bool.{Bool, true, false}
 use mathlib.Core.List.{List, [], _∷_, _++_}
 use mathlib.Core.Logic.{_≢_, _↔_}
@@ -139,10 +139,10 @@ module _ (m : ℕ) (t : List ℕ → Bool) (fits : (us : List ℕ) → t us ≡ 
       go false r = r
 
   -- of a whole text
-  pub places-right : 1 ≤ m → (ts : List ℕ) →
+  pub found-right : 1 ≤ m → (ts : List ℕ) →
       Rising (over (place-after m t) [] ts)
       × ((i : ℕ) → (member i (over (place-after m t) [] ts) ≡ true) ↔ ((i + m ≤ length ts) × (t (take (i + m) ts) ≡ true)))
-  places-right some ts = (
+  found-right some ts = (
     places-rise [] ts,
     λ i. (
       (λ h. let p = member-place [] ts i h in (omega (arith, p .within), p .ends)),

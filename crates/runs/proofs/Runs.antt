@@ -1,7 +1,6 @@
 -- A run and one call more. Assumes nothing.
-use mathlib.Core.Path.{_≡_, refl, sym, ap, _∙_}
+use mathlib.Core.Path.{_≡_, refl}
 use mathlib.Core.List.{List, [], _∷_, _++_, append-nil, append-assoc}
-use Prim.Native.Nat.{ℕ}
 use Rattle.runs.specs.Calls.{Outcome, run}
 
 pub run-snoc : {C X A : Type 0} (entry : C → X → Outcome X A) (cs : List C) (c : C) (x : X) →

@@ -1,4 +1,4 @@
--- RUNS of calls of any entry point, each with the state that the one before it answered. Assumes nothing: these are definitions.
+-- CALLS of any entry point, and runs of them. Assumes nothing: these are definitions.
 use mathlib.Core.Bool.{cond}
 use mathlib.Core.List.{List, [], _∷_, _++_}
 use Prim.Native.Nat.{ℕ}
@@ -12,7 +12,7 @@ pub record Outcome (X A : Type 0) : Type 0 where
   pub bytes : List ℕ
   pub told : List A
 
--- A RUN of an entry point, of which is known what a call comes to in a state
+-- A RUN: calls of an entry point, each in the state that the one before it answered
 unfoldable pub run : {C X A : Type 0} → (entry : C → X → Outcome X A) → (calls : List C) → X → Outcome X A
 run p [] x = record { after = x; bytes = []; told = [] }
 run p (c ∷ cs) x =

@@ -122,7 +122,7 @@ pub extern "C" fn speed_feed(
 ) -> Fed
     ensures { λ r. ⌜
         Feed-told (now (sheet .entry)) (watch-from state taken hits compares) (lent (now (piece .entry)) (now (places .entry))) r
-        (lent (now (piece .entry)) (now (places .exit))) ⌝ }
+        (lent (now (piece .exit)) (now (places .exit))) ⌝ }
 {
     fed_numbers(feed(
         sheet,
