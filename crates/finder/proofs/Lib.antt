@@ -10,4 +10,4 @@ pub mod Skipping
 pub mod Leading
 pub mod Turns
 pub mod Taking
-pub mod Samples
+pub mod CallSamples

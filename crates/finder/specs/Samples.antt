@@ -1,13 +1,16 @@
--- Document 01's bench samples that are marked P, as one table. Assumes nothing: these are definitions.
-use mathlib.Core.List.{List, [], _∷_}
+-- Document 01's bench samples that are marked P, and a run of calls worked out by hand, as one table. Assumes nothing: these are definitions.
+use mathlib.Core.List.{List, [], _∷_, _++_, map}
 use Prim.Native.Nat.{ℕ, suc}
 use lib.ListN.{length}
 use Rattle.automaton.specs.Ceilings.{byte-ceiling, total-ceiling}
 use Rattle.automaton.specs.Samples.{Sample, Agree, A, B, C, Z, abaab}
 use Rattle.codes.specs.Sheet.{sheet}
 use Rattle.runs.specs.Reading.{ending, ending-full}
+use Rattle.finder.specs.declared.Watch.{Watch}
 use Rattle.finder.specs.Feed.{opened, spots, Fed, feed}
-use Rattle.finder.specs.Texts.{costs}
+use Rattle.finder.specs.Machine.{machine-start, machine-refusals}
+use Rattle.finder.specs.Texts.{places, costs, watch-of}
+use Rattle.finder.specs.Entry.{Lent, lent, feed-run, told-places, told-refusal, plain}
 
 -- the sheet of a code
 unfoldable pub prepared : (code bytes : List ℕ) → Sample
@@ -40,6 +43,22 @@ calling w cs k ps ws n e =
       expected = ps ∷ ws ∷ (n ∷ e ∷ []) ∷ [];
     }
 
+-- a run of calls of `feed` on a sheet with a byte behind it: the places written, and those of the bytes taken; these bytes; the watch's four numbers, and
+-- those of the watch of these bytes; the refusals, and those of the plain machine
+abbrev numbers : Watch → List ℕ
+numbers x = x .state ∷ x .taken ∷ x .hits ∷ x .compares ∷ []
+
+unfoldable pub running : (code : List ℕ) → (calls : List Lent) → (places bytes watch refusals : List ℕ) → Sample
+running w ls ps bs ws rs =
+    let a = sheet w ++ (Z ∷ []) in
+    let r = feed-run told-places a ls in
+    record {
+      found =
+          r .told ∷ places w (r .bytes) ∷ r .bytes ∷ numbers (r .after) ∷ numbers (watch-of w (r .bytes))
+          ∷ feed-run told-refusal a ls .told ∷ machine-refusals w (map plain ls) machine-start ∷ [];
+      expected = ps ∷ ps ∷ bs ∷ ws ∷ ws ∷ rs ∷ rs ∷ [];
+    }
+
 -- THE TABLE
 unfoldable pub samples : List Sample
 samples =
@@ -54,6 +73,8 @@ samples =
     ∷ searched abaab (A ∷ B ∷ A ∷ A ∷ B ∷ A ∷ B ∷ A ∷ A ∷ B ∷ []) (0 ∷ 5 ∷ []) 10 2 15 18
     ∷ calling (A ∷ A ∷ []) (A ∷ A ∷ A ∷ A ∷ []) 1 (0 ∷ []) (2 ∷ 2 ∷ 1 ∷ 2 ∷ []) 2 1
     ∷ searched abaab [] [] 0 0 0 0
+    ∷ running (A ∷ B ∷ []) (lent (A ∷ B ∷ A ∷ []) (Z ∷ []) ∷ lent (A ∷ []) [] ∷ lent (A ∷ B ∷ B ∷ []) (Z ∷ Z ∷ Z ∷ []) ∷ [])
+    (0 ∷ 2 ∷ []) (A ∷ B ∷ A ∷ B ∷ B ∷ []) (0 ∷ 5 ∷ 2 ∷ 7 ∷ []) (0 ∷ 6 ∷ 0 ∷ [])
     ∷ []
 
 -- all its rows agree: what is found is what is expected
