@@ -5,7 +5,7 @@ use mathlib.Core.List.{List, [], _∷_}
 use mathlib.Core.Logic.{_≢_}
 use Prim.Native.Nat.{ℕ, zero, suc, _+_, _*_, _-_, _/_, _^_, _≤_, _<_}
 use native.Mathlib.Omega.{arith}
-use native.Mathlib.Nat.{le-trans, le-of-eq, two-pow-succ, le-min, zero-add, add-le-add}
+use native.Mathlib.Nat.{le-trans, le-of-eq, two-pow-succ, le-min, min-le-right, zero-add, add-le-add}
 use native.Mathlib.Numerals.{one-add}
 use lib.Dec.{eqb}
 use lib.ListN.{length, getD, take}
@@ -17,12 +17,11 @@ use Rattle.words.proofs.Lists.{member-nil, member-other}
 use Rattle.words.proofs.Ends.{Ends, ends-whole, ends-within, ends-without}
 use Rattle.words.proofs.Borders.{Border, border-is, border-test, overlap-border, overlap-label}
 use Rattle.automaton.specs.declared.Step.{Step}
-use Rattle.automaton.specs.Arrows.{targets-from, forward, back-targets, stepped}
+use Rattle.automaton.specs.Arrows.{targets-from, forward, back-targets, arrows, stepped}
 use Rattle.automaton.specs.Ceilings.{log2, different, byte-ceiling}
 use Rattle.automaton.specs.Promise.{Byte-below}
 use Rattle.automaton.proofs.Targets.{targets-none, targets-new, targets-old, forward-inside, forward-end, target-range}
 use Rattle.automaton.proofs.Labels.{seen-one}
-use Rattle.automaton.proofs.Preparing.{arrows}
 use Rattle.automaton.proofs.Steps.{forward-cases, stepped-cases}
 use Rattle.automaton.proofs.Logarithm.{log2-exponent}
 
@@ -102,7 +101,7 @@ all-arrows w p = length (forward w p) + arrows w p
 -- a fact of them, inside the word and at its end
 by-arrows : (w : List ℕ) (P : ℕ → Type 0) (p : ℕ) → p ≤ length w →
     (p < length w → P (suc (count w p p (byte w p ∷ [])))) → (p ≡ length w → P (count w p p [])) → P (all-arrows w p)
-unfolding all-arrows arrows back-targets count
+unfolding all-arrows back-targets count
 by-arrows w P p fits inside end =
     by-le (suc p) (length w)
     (λ (h : p < length w). rw (forward-inside w p h) (rw one-add (inside h)))
@@ -194,3 +193,13 @@ unfolding Byte-below byte-ceiling
 byte-below w p c fits =
     let cost = cost-arrows w p c in
     le-min (le-trans cost (arrows-logarithm w p fits)) (le-trans cost (arrows-different w p fits))
+
+-- it is no more than the code's length
+different-few : (w : List ℕ) → different w ≤ length w
+unfolding different
+different-few [] = omega arith
+different-few (x ∷ xs) = by-test (member x xs) (λ t. rw t (omega (arith, different-few xs))) (λ t. rw t (omega (arith, different-few xs)))
+
+pub ceiling-length : (w : List ℕ) → byte-ceiling w ≤ length w
+unfolding byte-ceiling
+ceiling-length w = le-trans (min-le-right (1 + log2 (length w)) (different w)) (different-few w)

@@ -4,30 +4,16 @@ use mathlib.Core.List.{List}
 use mathlib.Core.Logic.{_≢_}
 use Prim.Native.Nat.{ℕ, zero, suc, _+_, _-_, _≤_, _<_}
 use native.Mathlib.Omega.{arith}
-use lib.ListN.{length, length-append}
+use lib.ListN.{length}
 use Rattle.words.specs.Words.{border-of}
 use Rattle.words.proofs.Tests.{by-le, by-eq}
 use Rattle.words.proofs.Borders.{Border, border-zero, border-lower, border-prev, longest-is}
-use Rattle.automaton.specs.Arrows.{back-targets, targets-below, back-arrows}
+use Rattle.automaton.specs.Arrows.{arrows, arrows-below}
 use Rattle.automaton.specs.Preparing.{candidates}
 use Rattle.automaton.specs.Promise.{Few-arrows}
 use Rattle.automaton.proofs.Labels.{one-if}
-use Rattle.automaton.proofs.Preparing.{arrows, labels, candidates-are, arrows-zero, labels-are, labels-inside, arrows-at-most}
-
--- the backward arrows of the states below r
-unfoldable pub arrows-below : (w : List ℕ) → (r : ℕ) → ℕ
-arrows-below w r = length (targets-below w r)
-
-pub below-zero : (w : List ℕ) → arrows-below w 0 ≡ 0
-unfolding arrows-below targets-below
-below-zero w = refl
-
-pub below-suc : (w : List ℕ) (r : ℕ) → arrows-below w (suc r) ≡ arrows-below w r + arrows w r
-unfolding arrows-below targets-below arrows
-below-suc w r = length-append (targets-below w r) (back-targets w r)
-
-pub below-one : (w : List ℕ) → arrows-below w 1 ≡ 0
-below-one w = omega (arith, below-suc w 0, below-zero w, arrows-zero w)
+use Rattle.automaton.proofs.Counts.{arrows-zero, below-suc, below-one}
+use Rattle.automaton.proofs.Preparing.{labels, candidates-are, labels-are, labels-inside, arrows-at-most}
 
 -- the fact at r, for every border x of r
 abbrev Few-at : List ℕ → (r : ℕ) → Type 0
@@ -81,18 +67,16 @@ few w r fits = few-up-to w r r (omega arith) fits
 pub few-labels : (w : List ℕ) (r : ℕ) → 0 < r → r ≤ length w → arrows-below w r + labels w r ≤ r
 few-labels w r pos fits = omega (arith, few w r fits 0 (border-zero w r pos), below-one w)
 
-pub few-below : (w : List ℕ) (r : ℕ) → r ≤ length w → length (targets-below w (suc r)) ≤ r
+pub few-below : (w : List ℕ) (r : ℕ) → r ≤ length w → arrows-below w (suc r) ≤ r
 few-below w r fits =
-    unfold arrows-below in
     by-eq r 0
     (λ (e : r ≡ 0). rw e (omega (arith, below-one w)))
     (λ (n : r ≢ 0). omega (arith, few-labels w r (omega arith) fits, below-suc w r, arrows-at-most w r))
 
-pub candidates-fit : (w : List ℕ) (r : ℕ) → 0 < r → r ≤ length w → length (targets-below w r) + length (candidates w r) ≤ r
-candidates-fit w r pos fits =
-    unfold arrows-below labels in
-    rw (candidates-are w r pos fits) (few-labels w r pos fits)
+pub candidates-fit : (w : List ℕ) (r : ℕ) → 0 < r → r ≤ length w → arrows-below w r + length (candidates w r) ≤ r
+unfolding labels
+candidates-fit w r pos fits = rw (candidates-are w r pos fits) (few-labels w r pos fits)
 
 pub few-arrows : Few-arrows
-unfolding Few-arrows back-arrows
+unfolding Few-arrows
 few-arrows w = few-below w (length w) (omega arith)

@@ -1,5 +1,6 @@
 pub mod ArrowSamples
 pub mod Targets
+pub mod Counts
 pub mod Labels
 pub mod Preparing
 pub mod FewArrows
@@ -8,3 +9,4 @@ pub mod PaperArrows
 pub mod TotalCeiling
 pub mod Logarithm
 pub mod ByteCeiling
+pub mod Costs

@@ -14,12 +14,11 @@ use Rattle.words.proofs.Lists.{member-nil, member-other, member-fewer, every-me
 use Rattle.words.proofs.Ends.{Ends, ends-start, ends-whole, ends-longer, ends-label, ends-inside, ends-within, ends-without, ends-snoc}
 use Rattle.words.proofs.Largest.{Largest, largest-one, largest-same, largest-wider, state-is}
 use Rattle.automaton.specs.declared.Step.{Step}
-use Rattle.automaton.specs.Arrows.{label, targets-from, forward, back-targets, try-forward, try-back, stepped, arrow-to}
-use Rattle.automaton.specs.Promise.{leads-to, Steps-right, Back-arrow, Targets-right, Targets-fall}
+use Rattle.automaton.specs.Arrows.{label, targets-from, forward, back-targets, arrows, try-forward, try-back, stepped, arrow-to}
+use Rattle.automaton.specs.Promise.{leads-to, Steps-right, State-next, Back-arrow, Targets-right, Targets-fall}
 use Rattle.automaton.proofs.Targets.{label-suc, targets-ind, Target, targets-fall, forward-inside, forward-end, back-range, target-range}
 use Rattle.automaton.proofs.Labels.{labelled, Lacks, Led, seen-lacks, lacks-none, labelled-nil, labelled-on, labelled-off, labelled-largest}
-use Rattle.automaton.proofs.Preparing.{arrows}
-use Rattle.automaton.proofs.Steps.{back-on, back-off, back-nil, forward-on, forward-off, forward-cases, stepped-cases}
+use Rattle.automaton.proofs.Steps.{back-on, back-off, back-nil, forward-on, forward-zero, forward-cases, stepped-cases}
 
 -- where no target has the label, the forward arrow is tried; else the step leads to the target with the label
 back-none : (w : List ℕ) (p c b : ℕ) (ls : List ℕ) → labelled w c 0 (targets-from b w p ls) ≡ 0 → (k : ℕ) →
@@ -35,7 +34,7 @@ back-none w p c =
     absurd (omega (arith, found, e)))
     (λ (n : byte w b ≢ c).
     let at : k + suc (length us) ≡ suc k + length us = omega arith in
-    rw at (back-off b us k w p c n ∙ ih (sym (labelled-off w c 0 b us n) ∙ e) (suc k))))
+    rw at (back-off (suc b) us k w p c (λ q. n (sym (label-suc w b) ∙ q)) ∙ ih (sym (labelled-off w c 0 b us n) ∙ e) (suc k))))
     (λ b ls f ih. ih)
 
 back-some : (w : List ℕ) (p c b : ℕ) (ls : List ℕ) (q : ℕ) → labelled w c 0 (targets-from b w p ls) ≡ suc q → (k : ℕ) →
@@ -48,8 +47,9 @@ back-some w p c =
     by-eq (byte w b) c
     (λ (h : byte w b ≡ c).
     let found : labelled w c 0 (suc b ∷ us) ≡ suc b = labelled-on w c 0 b us h ∙ lacks-none w c (suc b) us (rw h (seen-lacks w p b c ls)) in
-    ap (λ (s : Step). s .state) (back-on b us k w p c h) ∙ sym found ∙ e)
-    (λ (n : byte w b ≢ c). ap (λ (s : Step). s .state) (back-off b us k w p c n) ∙ ih q (sym (labelled-off w c 0 b us n) ∙ e) (suc k)))
+    ap (λ (s : Step). s .state) (back-on (suc b) us k w p c (label-suc w b ∙ h)) ∙ sym found ∙ e)
+    (λ (n : byte w b ≢ c).
+    ap (λ (s : Step). s .state) (back-off (suc b) us k w p c (λ h. n (sym (label-suc w b) ∙ h))) ∙ ih q (sym (labelled-off w c 0 b us n) ∙ e) (suc k)))
     (λ b ls f ih. ih)
 
 -- A STEP on the forward label
@@ -69,7 +69,7 @@ step-other w p c f = go (labelled w c 0 (targets-from p w p (forward w p))) refl
     go : (q : ℕ) → labelled w c 0 (targets-from p w p (forward w p)) ≡ q → try-back (targets-from p w p (forward w p)) 0 w p c .state ≡ q
     go zero e =
         ap (λ (s : Step). s .state) (back-none w p c p (forward w p) e 0)
-        ∙ forward-off (0 + length (targets-from p w p (forward w p))) w p c f
+        ∙ forward-zero (0 + length (targets-from p w p (forward w p))) w p c f
     go (suc q) e = back-some w p c p (forward w p) q e 0
 
 forward-unseen : (w : List ℕ) (p c : ℕ) → (p < length w → byte w p ≢ c) → member c (forward w p) ≡ false
@@ -107,9 +107,10 @@ step-largest w p c fits =
         f (ends-inside (take p w) w c p v) (ends-label (take p w) w c p v))
         (unfold back-targets in labelled-largest w p c fits p (forward w p) (omega arith) (forward-unseen w p c f)))
 
--- from the state of a text it leads to the state of the text with one byte more
-pub step-state : (w ts : List ℕ) (c : ℕ) → stepped w (state-of w ts) c .state ≡ state-of w (ts ++ (c ∷ []))
-step-state w ts c =
+-- THE STEP THEOREM: what the first p bytes end with, p the state of a text, the text ends with too, also with one byte more
+pub state-next : State-next
+unfolding State-next
+state-next w ts c =
     let s = state-is w ts in
     let p = state-of w ts in
     let size : length (take p w) ≡ p = length-take-le p w (s .bound) in

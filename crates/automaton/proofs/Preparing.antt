@@ -1,6 +1,6 @@
 -- The arrows of a state from those of its longest border: the rule by which a sheet is prepared, and its counts. Assumes nothing.
 use mathlib.Core.Path.{_≡_, refl, sym, ap, _∙_}
-use mathlib.Core.Bool.{cond}
+use mathlib.Core.Bool.{false, cond}
 use mathlib.Core.List.{List, [], _∷_, _++_, append-nil}
 use Prim.Native.Nat.{ℕ, suc, _+_, _-_, _≤_, _<_}
 use native.Mathlib.Omega.{arith}
@@ -13,9 +13,9 @@ use Rattle.words.proofs.Tests.{by-le, by-eq}
 use Rattle.words.proofs.Lists.{member-nil, member-head, member-other}
 use Rattle.words.proofs.Largest.{largest-one, largest-same}
 use Rattle.words.proofs.Borders.{Border, border-test, border-below, longest-is}
-use Rattle.automaton.specs.Arrows.{label, targets-from, forward, back-targets}
+use Rattle.automaton.specs.Arrows.{label, targets-from, forward, back-targets, arrows}
 use Rattle.automaton.specs.Preparing.{candidates, drops, kept, dropped}
-use Rattle.automaton.proofs.Targets.{targets-new, targets-alike, targets-down, forward-inside, forward-end, back-zero}
+use Rattle.automaton.proofs.Targets.{targets-new, targets-alike, targets-down, forward-inside, forward-end}
 use Rattle.automaton.proofs.Labels.{unlabelled, labelled, one-if, Led, targets-unlabelled, labelled-counts, labelled-largest}
 
 -- the target of the longest border and that border's own targets are all targets, the one with the forward label among them
@@ -47,13 +47,17 @@ kept-are w r pos fits =
     ∙ sym (kept-is w r (candidates w r))
 
 -- WHAT DOES NOT: the target with the forward label is the longest border of the next state
-drops-inside : (w : List ℕ) (r t : ℕ) → r < length w → drops w r t ≡ eqb (label w t) (byte w r)
+pub drops-inside : (w : List ℕ) (r t : ℕ) → r < length w → drops w r t ≡ eqb (label w t) (byte w r)
 unfolding drops
 drops-inside w r t h =
     rw (forward-inside w r h)
     (by-eq (byte w r) (label w t)
     (λ e. rw (← e) (member-head (byte w r) [] ∙ sym (eq-eqb (byte w r) (byte w r) refl)))
     (λ n. member-other (label w t) (byte w r) [] n ∙ member-nil (label w t) ∙ sym (ne-eqb (label w t) (byte w r) (λ e. n (sym e)))))
+
+pub drops-end : (w : List ℕ) (r t : ℕ) → length w ≤ r → drops w r t ≡ false
+unfolding drops
+drops-end w r t h = rw (forward-end w r h) (member-nil (label w t))
 
 dropped-is-labelled : (w : List ℕ) (r : ℕ) → r < length w → (f : ℕ) (ts : List ℕ) → dropped w r f ts ≡ labelled w (byte w r) f ts
 unfolding dropped labelled
@@ -84,28 +88,21 @@ dropped-is w r pos inside =
 pub border-one : (w : List ℕ) → border-of w 1 ≡ 0
 border-one w = let h : border-of w 1 ≤ 1 - 1 = longest-is w 1 (omega arith) .bound in omega arith
 
--- COUNTS: the backward arrows of a state, and the labels on its borders
-unfoldable pub arrows : (w : List ℕ) → (r : ℕ) → ℕ
-arrows w r = length (back-targets w r)
-
+-- COUNTS: the labels on the borders of a state, and its backward arrows
 unfoldable pub labels : (w : List ℕ) → (r : ℕ) → ℕ
 labels w r = length (targets-from r w r [])
 
-pub arrows-zero : (w : List ℕ) → arrows w 0 ≡ 0
-unfolding arrows
-arrows-zero w = ap length (back-zero w)
-
 pub labels-are : (w : List ℕ) (r : ℕ) → 0 < r → r ≤ length w → labels w r ≡ suc (arrows w (border-of w r))
-unfolding labels arrows
+unfolding labels
 labels-are w r pos fits = ap length (sym (candidates-are w r pos fits)) ∙ unfold candidates in refl
 
 pub labels-inside : (w : List ℕ) (r : ℕ) → r < length w → labels w r ≡ one-if (border-of w (suc r)) + arrows w r
-unfolding labels arrows back-targets
+unfolding labels back-targets
 labels-inside w r h =
     rw (border-labelled w r h, forward-inside w r h, targets-unlabelled w r (byte w r ∷ []) r []) (labelled-counts w r (byte w r) r [])
 
 pub labels-end : (w : List ℕ) (r : ℕ) → length w ≤ r → arrows w r ≡ labels w r
-unfolding labels arrows back-targets
+unfolding labels back-targets
 labels-end w r h = rw (forward-end w r h)
 
 pub arrows-at-most : (w : List ℕ) (r : ℕ) → arrows w r ≤ labels w r

@@ -1,30 +1,29 @@
 -- Steps by cases, what they cost and how far they lead. Assumes nothing.
-use mathlib.Core.Path.{_≡_, refl, sym, _∙_}
+use mathlib.Core.Path.{_≡_, refl}
 use mathlib.Core.Logic.{_≢_}
 use mathlib.Core.List.{List, [], _∷_, _++_, map}
 use Prim.Native.Nat.{ℕ, suc, _+_, _-_, _≤_, _<_}
 use native.Mathlib.Omega.{arith}
 use lib.Dec.{ltb, eqb}
 use lib.ListN.{length}
-use borrow.Author.Tests.{ltb-true, ltb-false, lt-ltb, eqb-true, eq-eqb, ne-eqb}
+use borrow.Author.Tests.{ltb-true, ltb-false, lt-ltb, le-ltb, eqb-true, eq-eqb, ne-eqb}
 use Rattle.words.specs.Words.{byte, Every}
 use Rattle.words.proofs.Tests.{by-test}
 use Rattle.automaton.specs.declared.Step.{Step}
 use Rattle.automaton.specs.declared.Arrow.the-variants.{Back, Forward, Nothing}
-use Rattle.automaton.specs.Arrows.{label, forward, back-targets, step, try-forward, try-back, stepped, arrow-number, arrow-target}
+use Rattle.automaton.specs.Arrows.{label, forward, back-targets, arrows, step, try-forward, try-back, stepped, arrow-number, arrow-target}
 use Rattle.automaton.specs.Promise.{Arrows-told, labels-of, compared, Costs-right, Steps-at-zero}
-use Rattle.automaton.proofs.Targets.{label-suc, target-range, back-zero}
-use Rattle.automaton.proofs.Preparing.{arrows}
+use Rattle.automaton.proofs.Targets.{target-range, back-zero}
 
 -- ONE LABEL
-module _ (b : ℕ) (ts : List ℕ) (k : ℕ) (w : List ℕ) (p c : ℕ) where
-  pub back-on : byte w b ≡ c → try-back (suc b ∷ ts) k w p c ≡ step (suc b) (suc k) (Back (suc b))
+module _ (t : ℕ) (ts : List ℕ) (k : ℕ) (w : List ℕ) (p c : ℕ) where
+  pub back-on : label w t ≡ c → try-back (t ∷ ts) k w p c ≡ step t (suc k) (Back t)
   unfolding try-back
-  back-on e = rw (eq-eqb (label w (suc b)) c (label-suc w b ∙ e))
+  back-on e = rw (eq-eqb (label w t) c e)
 
-  pub back-off : byte w b ≢ c → try-back (suc b ∷ ts) k w p c ≡ try-back ts (suc k) w p c
+  pub back-off : label w t ≢ c → try-back (t ∷ ts) k w p c ≡ try-back ts (suc k) w p c
   unfolding try-back
-  back-off n = rw (ne-eqb (label w (suc b)) c (λ e. n (sym (label-suc w b) ∙ e)))
+  back-off n = rw (ne-eqb (label w t) c n)
 
 pub back-nil : (k : ℕ) (w : List ℕ) (p c : ℕ) → try-back [] k w p c ≡ try-forward k w p c
 unfolding try-back
@@ -35,9 +34,17 @@ module _ (k : ℕ) (w : List ℕ) (p c : ℕ) where
   unfolding try-forward
   forward-on h e = rw (lt-ltb p (length w) h, eq-eqb (byte w p) c e)
 
-  pub forward-off : (p < length w → byte w p ≢ c) → try-forward k w p c .state ≡ 0
+  pub forward-off : p < length w → byte w p ≢ c → try-forward k w p c ≡ step 0 (suc k) Nothing
   unfolding try-forward
-  forward-off f =
+  forward-off h n = rw (lt-ltb p (length w) h, ne-eqb (byte w p) c n)
+
+  pub forward-past : length w ≤ p → try-forward k w p c ≡ step 0 k Nothing
+  unfolding try-forward
+  forward-past h = rw (le-ltb p (length w) h)
+
+  pub forward-zero : (p < length w → byte w p ≢ c) → try-forward k w p c .state ≡ 0
+  unfolding try-forward
+  forward-zero f =
       by-test (ltb p (length w))
       (λ t. rw (t, ne-eqb (byte w p) c (f (ltb-true p (length w) t))))
       (λ t. rw t)
@@ -68,7 +75,7 @@ back-cases Q P (t ∷ ts) k w p c all back front =
 
 pub stepped-cases : (Q : Step → Type 0) (P : ℕ → Type 0) (w : List ℕ) (p c : ℕ) → Every P (back-targets w p) →
     ((t j : ℕ) → P t → j ≤ arrows w p → Q (step t j (Back t))) → Q (try-forward (arrows w p) w p c) → Q (stepped w p c)
-unfolding stepped arrows
+unfolding stepped
 stepped-cases Q P w p c all back front =
     let e : length (back-targets w p) ≡ 0 + length (back-targets w p) = omega arith in
     back-cases Q P (back-targets w p) 0 w p c all (λ t j h l. back t j h (omega arith)) (rw e at front)
@@ -87,7 +94,9 @@ unfolding Arrows-told
 arrows-told w p c =
     let Q : Step → Type 0 =
     λ s.
-    (arrow-number (s .arrow) ≡ 0 → s .state ≡ 0) × (arrow-number (s .arrow) ≡ 1 → s .state ≡ arrow-target (s .arrow)) × (arrow-number (s .arrow) ≡ 2 → s .state ≡ suc p) in
+    (arrow-number (s .arrow) ≡ 0 → s .state ≡ 0)
+    × (arrow-number (s .arrow) ≡ 1 → s .state ≡ arrow-target (s .arrow))
+    × (arrow-number (s .arrow) ≡ 2 → s .state ≡ suc p) in
     stepped-cases Q (λ t. (1 ≤ t) × (t ≤ p)) w p c (target-range w p)
     (λ t j h l. (λ e. absurd (omega arith), λ e. refl, λ e. absurd (omega arith)))
     (forward-cases (arrows w p) w p c Q

@@ -7,11 +7,12 @@ use native.Mathlib.Nat.{mul-le-mul-left, le-div-iff-mul-le, le-of-mul-le-mul-lef
 use lib.ListN.{length}
 use Rattle.automaton.specs.declared.Step.{Step}
 use Rattle.automaton.specs.declared.Arrow.the-variants.{Back, Forward, Nothing}
-use Rattle.automaton.specs.Arrows.{forward, step, stepped}
+use Rattle.automaton.specs.Arrows.{forward, arrows, arrows-below, step, stepped}
 use Rattle.automaton.specs.Ceilings.{total-ceiling}
 use Rattle.automaton.proofs.Targets.{Target, back-range}
-use Rattle.automaton.proofs.Preparing.{arrows, arrows-at-most}
-use Rattle.automaton.proofs.FewArrows.{arrows-below, below-zero, below-suc, few, few-below}
+use Rattle.automaton.proofs.Counts.{below-zero, below-suc}
+use Rattle.automaton.proofs.Preparing.{arrows-at-most}
+use Rattle.automaton.proofs.FewArrows.{few, few-below}
 use Rattle.automaton.proofs.Steps.{forward-cases, stepped-cases, step-bounds}
 
 -- what it costs to come from 0 to p by forward arrows
@@ -27,7 +28,9 @@ amortize m p q cost a z e pos h l =
     omega (arith, mul-le-mul-left m h, ap (λ (n : ℕ). n * q) twice, ap (λ (n : ℕ). n * p) twice)
 
 abbrev Amortized : (w : List ℕ) → (p : ℕ) → Step → Type 0
-Amortized w p s = length w * (s .cost + forward-cost w p) + (2 * length w - 1) * s .state ≤ length w * forward-cost w (s .state) + (2 * length w - 1) * suc p
+Amortized w p s =
+    length w * (s .cost + forward-cost w p) + (2 * length w - 1) * s .state
+    ≤ length w * forward-cost w (s .state) + (2 * length w - 1) * suc p
 
 module _ (w : List ℕ) (p : ℕ) (pos : 0 < length w) (fits : p ≤ length w) where
   amortized-back : (t j : ℕ) → Target w p p (forward w p) t → j ≤ arrows w p → Amortized w p (step t j (Back t))
@@ -43,12 +46,13 @@ module _ (w : List ℕ) (p : ℕ) (pos : 0 < length w) (fits : p ≤ length w) w
   amortized-forward : p < length w → Amortized w p (step (suc p) (suc (arrows w p)) Forward)
   unfolding forward-cost
   amortized-forward inside =
-      amortize (length w) p (suc p) (suc (arrows w p)) (arrows-below w p + p) (arrows-below w (suc p) + suc p) 2 pos (omega (arith, below-suc w p)) (omega arith)
+      amortize (length w) p (suc p) (suc (arrows w p)) (arrows-below w p + p) (arrows-below w (suc p) + suc p) 2 pos
+      (omega (arith, below-suc w p)) (omega arith)
 
   amortized-none : (j e : ℕ) → j ≤ e + arrows w p → length w * e + p + 1 ≤ 2 * length w → Amortized w p (step 0 j Nothing)
   unfolding forward-cost
   amortized-none j e l fit =
-      let few : arrows-below w (suc p) ≤ p = unfold arrows-below in few-below w p fits in
+      let few : arrows-below w (suc p) ≤ p = few-below w p fits in
       amortize (length w) p 0 j (arrows-below w p + p) (arrows-below w 0 + 0) e pos (omega (arith, below-suc w p, below-zero w)) (omega arith)
 
   pub one-step : (c : ℕ) → Amortized w p (stepped w p c)
@@ -70,7 +74,7 @@ pub forward-cost-below : (w : List ℕ) (p : ℕ) → p ≤ length w → length 
 unfolding forward-cost
 forward-cost-below w zero fits = let none : arrows-below w 0 + 0 ≡ 0 = omega (arith, below-zero w) in rw none (omega arith)
 forward-cost-below w (suc r) fits =
-    let few : arrows-below w (suc r) ≤ r = unfold arrows-below in few-below w r (omega arith) in
+    let few : arrows-below w (suc r) ≤ r = few-below w r (omega arith) in
     amortize-forward (length w) (suc r) (arrows-below w (suc r) + suc r) fits (omega arith)
 
 -- A RUN: in state p after n bytes that cost k comparisons

@@ -32,9 +32,19 @@ unfoldable pub targets-below : (w : List ℕ) → (s : ℕ) → List ℕ
 targets-below w zero = []
 targets-below w (suc s) = targets-below w s ++ back-targets w s
 
--- how many backward arrows a code has
-unfoldable pub back-arrows : (w : List ℕ) → ℕ
-back-arrows w = length (targets-below w (suc (length w)))
+-- those of all states
+abbrev pub all-targets : (w : List ℕ) → List ℕ
+all-targets w = targets-below w (suc (length w))
+
+-- how many backward arrows state p has, the states below s have, and the code has
+abbrev pub arrows : (w : List ℕ) → (p : ℕ) → ℕ
+arrows w p = length (back-targets w p)
+
+abbrev pub arrows-below : (w : List ℕ) → (s : ℕ) → ℕ
+arrows-below w s = length (targets-below w s)
+
+abbrev pub back-arrows : (w : List ℕ) → ℕ
+back-arrows w = length (all-targets w)
 
 -- A STEP on byte c: backward labels first, by falling target, then the forward one; the cost is the number of labels compared
 abbrev pub step : (state cost : ℕ) → Arrow → Step

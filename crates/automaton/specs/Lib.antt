@@ -1,5 +1,6 @@
 pub mod Arrows
 pub mod Preparing
 pub mod Ceilings
+pub mod Costs
 pub mod Promise
 pub mod Samples

@@ -6,10 +6,11 @@ use mathlib.Core.Logic.{_≢_, _↔_}
 use Prim.Native.Nat.{ℕ, suc, _^_, _≤_, _<_}
 use lib.Dec.{eqb}
 use lib.ListN.{length, take}
-use Rattle.words.specs.Words.{byte, member, Falling, state-of}
+use Rattle.words.specs.Words.{byte, member, Every, Falling, state-of}
 use Rattle.automaton.specs.declared.Arrow.the-variants.{Forward, Nothing}
 use Rattle.automaton.specs.Arrows.{label, forward, back-targets, back-arrows, step, stepped, arrow-to, arrow-number, arrow-target}
-use Rattle.automaton.specs.Ceilings.{log2, byte-ceiling}
+use Rattle.automaton.specs.Ceilings.{log2, byte-ceiling, total-ceiling}
+use Rattle.automaton.specs.Costs.{costs, sum}
 
 -- THE PAPER'S ARROWS. An arrow (p, a, q) leads from the first p bytes on byte a to the longest start that they, followed by a, end with
 unfoldable pub leads-to : (w : List ℕ) → (p a : ℕ) → ℕ
@@ -20,6 +21,10 @@ unfoldable pub Steps-right : Type 0
 Steps-right =
     (w : List ℕ) (p c : ℕ) → p ≤ length w →
     (stepped w p c .state ≡ leads-to w p c) × (stepped w p c .arrow ≡ arrow-to p (stepped w p c .state))
+
+-- THE STEP THEOREM: from the state of a text it leads to the state of the text and the byte
+unfoldable pub State-next : Type 0
+State-next = (w text : List ℕ) (c : ℕ) → stepped w (state-of w text) c .state ≡ state-of w (text ++ (c ∷ []))
 
 -- by its number: none leads to 0, a backward one to its target, the forward one to p + 1
 unfoldable pub Arrows-told : Type 0
@@ -75,3 +80,9 @@ Logarithm-right = (m : ℕ) → 1 ≤ m → (2 ^ log2 m ≤ m) × (m < 2 ^ suc (
 -- no byte costs more than the byte ceiling, in any state
 unfoldable pub Byte-below : Type 0
 Byte-below = (w : List ℕ) (p c : ℕ) → p ≤ length w → stepped w p c .cost ≤ byte-ceiling w
+
+-- so no byte of a text does, and together its bytes cost no more than the total ceiling
+unfoldable pub Costs-below : Type 0
+Costs-below =
+    (w text : List ℕ) → 1 ≤ length w →
+    Every (λ k. k ≤ byte-ceiling w) (costs w text) × (sum (costs w text) ≤ total-ceiling (length w) (length text))

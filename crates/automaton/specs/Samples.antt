@@ -4,6 +4,7 @@ use mathlib.Core.List.{List, [], _∷_, _++_, map}
 use Prim.Native.Nat.{ℕ, zero, suc}
 use lib.ListN.{length}
 use Rattle.automaton.specs.Arrows.{back-targets, stepped}
+use Rattle.automaton.specs.Costs.{costs}
 
 -- A SAMPLE: lists of numbers as the definitions give them, and as the document says, or its rules where it gives no number
 pub record Sample : Type 0 where
@@ -28,9 +29,9 @@ unfoldable pub step-costs : (w : List ℕ) → (p : ℕ) → (text : List ℕ) �
 step-costs w p [] = []
 step-costs w p (c ∷ cs) = stepped w p c .cost ∷ step-costs w (stepped w p c .state) cs
 
--- those from state 0 on
+-- those from state 0 on, and the costs of the text
 unfoldable pub stepping : (code text each : List ℕ) → Sample
-stepping w ts ks = record { found = step-costs w 0 ts ∷ []; expected = ks ∷ [] }
+stepping w ts ks = record { found = step-costs w 0 ts ∷ costs w ts ∷ []; expected = ks ∷ ks ∷ [] }
 
 -- the letters a, b, c and z
 abbrev pub A : ℕ
@@ -49,8 +50,8 @@ abbrev pub abaab : List ℕ
 abaab = A ∷ B ∷ A ∷ A ∷ B ∷ []
 
 -- THE TABLE
-unfoldable pub samples : List Sample
-samples =
+unfoldable pub arrow-samples : List Sample
+arrow-samples =
     targeted abaab ([] ∷ (1 ∷ []) ∷ [] ∷ (2 ∷ []) ∷ (1 ∷ []) ∷ (3 ∷ []) ∷ [])
     ∷ stepping (A ∷ B ∷ []) (A ∷ A ∷ A ∷ []) (1 ∷ 1 ∷ 1 ∷ [])
     ∷ stepping (A ∷ B ∷ []) (A ∷ B ∷ Z ∷ []) (1 ∷ 2 ∷ 1 ∷ [])
@@ -58,5 +59,5 @@ samples =
     ∷ []
 
 -- all its rows agree
-unfoldable pub Samples-hold : Type 0
-Samples-hold = Agree samples
+unfoldable pub Arrow-samples-hold : Type 0
+Arrow-samples-hold = Agree arrow-samples

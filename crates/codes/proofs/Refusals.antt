@@ -1,46 +1,38 @@
--- Laws of refusals: which of a list is the first, what an answer is, and what a code without a refusal is. Assumes nothing.
-use mathlib.Core.Path.{_≡_, refl, sym, _∙_}
+-- Laws of refusals: what a list without one tells, what an answer is, and what a code without a refusal is. A list of refusals computes once its tests are
+-- known: one rewriting for each test decides it. Assumes nothing.
+use mathlib.Core.Path.{_≡_, refl, sym, ap, _∙_}
 use mathlib.Core.Bool.{Bool, true, false}
 use mathlib.Core.List.{List, [], _∷_}
 use mathlib.Core.Logic.{_≢_}
-use Prim.Native.Nat.{ℕ, zero, suc, _≤_, _<_}
+use Prim.Native.Nat.{ℕ, zero, suc, _≤_, _<_, min}
 use native.Mathlib.Omega.{arith}
 use lib.Dec.{ltb, eqb, eqb·suc-zero}
 use lib.ListN.{length}
 use borrow.Author.Tests.{eq-eqb, ne-eqb, lt-ltb, le-ltb, eqb-true, eqb-false, ltb-false}
+use Rattle.words.specs.Words.{Every}
+use Rattle.words.proofs.Tests.{by-le}
 use Rattle.codes.specs.declared.Answer.the-variants.{Value, Refused}
 use Rattle.codes.specs.Refusals.{refused-if, first-refusal, answered}
-use Rattle.codes.specs.Codes.{longest-code, length-refusal, code-refusal, accepted}
+use Rattle.codes.specs.Codes.{length-refusal, longest-code, code-refusal, accepted}
 use Rattle.codes.specs.Promise.{Answers-told}
 
--- THE FIRST of a list: its head, or the first behind it
+-- NO REFUSAL: none of the list, and no condition holds
+pub none-of : (ns : List ℕ) → first-refusal ns ≡ 0 → Every (λ n. n ≡ 0) ns
+unfolding first-refusal
+none-of [] e = tt
+none-of (zero ∷ ns) e = (refl, none-of ns e)
+none-of (suc n ∷ ns) e = absurd (omega arith)
+
+pub not-refused : (n : ℕ) (t : Bool) → refused-if (suc n) t ≡ 0 → t ≡ false
+unfolding refused-if
+not-refused n true e = absurd (omega arith)
+not-refused n false e = refl
+
+-- A REFUSAL is the first, whatever is behind it
 pub first-here : (n : ℕ) (ns : List ℕ) → n ≢ 0 → first-refusal (n ∷ ns) ≡ n
 unfolding first-refusal
 first-here zero ns h = absurd (h refl)
 first-here (suc n) ns h = refl
-
-pub first-later : (n : ℕ) (ns : List ℕ) → n ≡ 0 → first-refusal (n ∷ ns) ≡ first-refusal ns
-unfolding first-refusal
-first-later zero ns e = refl
-first-later (suc n) ns e = absurd (omega arith)
-
--- by its condition
-pub refused : (n : ℕ) (t : Bool) (ns : List ℕ) → t ≡ true → first-refusal (refused-if (suc n) t ∷ ns) ≡ suc n
-unfolding first-refusal refused-if
-refused n t ns e = rw e
-
-pub passed : (n : ℕ) (t : Bool) (ns : List ℕ) → t ≡ false → first-refusal (refused-if n t ∷ ns) ≡ first-refusal ns
-unfolding first-refusal refused-if
-passed n t ns e = rw e
-
--- where nothing is refused, no condition holds
-pub none-first : (n : ℕ) (t : Bool) (ns : List ℕ) → first-refusal (refused-if (suc n) t ∷ ns) ≡ 0 → t ≡ false
-unfolding first-refusal refused-if
-none-first n true ns e = absurd (omega arith)
-none-first n false ns e = refl
-
-pub none-later : (n : ℕ) (t : Bool) (ns : List ℕ) → first-refusal (refused-if (suc n) t ∷ ns) ≡ 0 → first-refusal ns ≡ 0
-none-later n t ns e = sym (passed (suc n) t ns (none-first n t ns e)) ∙ e
 
 -- ANSWERS
 pub answered-value : (n v : ℕ) → n ≡ 0 → answered n v ≡ Value v
@@ -58,34 +50,46 @@ unfolding Answers-told answered
 answers-told zero v = (refl, refl)
 answers-told (suc n) v = (refl, rw eqb·suc-zero refl)
 
--- CODES: a length is refused where it is 0 or too large, and in no other case
-abbrev too-long : ℕ → List ℕ
-too-long m = refused-if 2 (ltb longest-code m) ∷ []
+-- A LENGTH is refused where it is 0 or too large, and in no other case
+module _ (l m : ℕ) where
+  pub length-none : m ≡ 0 → length-refusal l m ≡ 1
+  unfolding length-refusal first-refusal refused-if
+  length-none e = rw (eq-eqb m 0 e)
 
-pub length-none : (m : ℕ) → m ≡ 0 → length-refusal m ≡ 1
-unfolding length-refusal
-length-none m e = refused 0 (eqb m 0) (too-long m) (eq-eqb m 0 e)
+  pub length-over : m ≢ 0 → l < m → length-refusal l m ≡ 2
+  unfolding length-refusal first-refusal refused-if
+  length-over n h = rw (ne-eqb m 0 n, lt-ltb l m h)
 
-pub length-over : (m : ℕ) → longest-code < m → length-refusal m ≡ 2
-unfolding length-refusal
-length-over m h =
-    passed 1 (eqb m 0) (too-long m) (ne-eqb m 0 (λ e. omega arith)) ∙ refused 1 (ltb longest-code m) [] (lt-ltb longest-code m h)
+  pub length-good : m ≢ 0 → m ≤ l → length-refusal l m ≡ 0
+  unfolding length-refusal first-refusal refused-if
+  length-good n h = rw (ne-eqb m 0 n, le-ltb l m h)
 
-pub length-good : (m : ℕ) → 1 ≤ m → m ≤ longest-code → length-refusal m ≡ 0
-unfolding length-refusal first-refusal
-length-good m l h =
-    passed 1 (eqb m 0) (too-long m) (ne-eqb m 0 (λ e. omega arith)) ∙ passed 2 (ltb longest-code m) [] (le-ltb longest-code m h)
+  pub length-bounds : length-refusal l m ≡ 0 → (1 ≤ m) × (m ≤ l)
+  unfolding length-refusal
+  length-bounds e =
+      let n = none-of _ e in
+      let some : m ≢ 0 = eqb-false m 0 (not-refused 0 (eqb m 0) (n .0)) in
+      (omega arith, ltb-false l m (not-refused 1 (ltb l m) (n .1 .0)))
 
-pub length-bounds : (m : ℕ) → length-refusal m ≡ 0 → (1 ≤ m) × (m ≤ longest-code)
-unfolding length-refusal
-length-bounds m e =
-    let some : m ≢ 0 = eqb-false m 0 (none-first 0 (eqb m 0) (too-long m) e) in
-    (omega arith, ltb-false longest-code m (none-first 1 (ltb longest-code m) [] (none-later 0 (eqb m 0) (too-long m) e)))
+-- so the first l + 1 bytes, or more, decide it
+pub length-cut : (l m n : ℕ) → l < n → length-refusal l (min m n) ≡ length-refusal l m
+length-cut l m n h =
+    by-le m n
+    (λ (le : m ≤ n). let e : min m n ≡ m = omega arith in ap (length-refusal l) e)
+    (λ (le : n < m). length-over l (min m n) (λ z. omega arith) (omega arith) ∙ sym (length-over l m (λ z. omega arith) (omega arith)))
 
+-- A CODE without a refusal
 pub code-bounds : (w : List ℕ) → code-refusal w ≡ 0 → (1 ≤ length w) × (length w ≤ longest-code)
 unfolding code-refusal
-code-bounds w e = length-bounds (length w) e
+code-bounds w e = length-bounds longest-code (length w) e
+
+pub accepted-none : (w : List ℕ) → accepted w ≡ true → code-refusal w ≡ 0
+unfolding accepted
+accepted-none w e = eqb-true (code-refusal w) 0 e
+
+pub none-accepted : (w : List ℕ) → code-refusal w ≡ 0 → accepted w ≡ true
+unfolding accepted
+none-accepted w e = eq-eqb (code-refusal w) 0 e
 
 pub accepted-bounds : (w : List ℕ) → accepted w ≡ true → (1 ≤ length w) × (length w ≤ longest-code)
-unfolding accepted
-accepted-bounds w e = code-bounds w (eqb-true (code-refusal w) 0 e)
+accepted-bounds w e = code-bounds w (accepted-none w e)

@@ -1,17 +1,15 @@
--- What the loops over bytes keep: a byte sought, different bytes counted, and the fronts of two lists compared. Assumes nothing.
-use mathlib.Core.Path.{_≡_, sym, ap, _∙_}
+-- What the loops over the bytes of a code keep: a byte sought, and different bytes counted. Assumes nothing.
+use mathlib.Core.Path.{_≡_, _∙_}
 use mathlib.Core.Bool.{true, false, cond}
 use mathlib.Core.List.{List}
 use mathlib.Core.Logic.{_≢_}
 use Prim.Native.Nat.{ℕ, suc, _+_, _≤_, _<_}
 use native.Mathlib.Nat.{zero-add}
 use native.Mathlib.Numerals.{add-one}
-use native.Mathlib.Omega.{arith}
-use lib.ListN.{length, getD, take, drop, length-take, drop-of-length-le}
-use lib.Seq.{drop-cons, take-suc, getD-take, length-take-le}
-use Rattle.words.specs.Words.{member, same}
-use Rattle.words.proofs.Tests.{by-test}
-use Rattle.words.proofs.Lists.{same-eq, member-head, member-other}
+use lib.ListN.{length, getD, drop, drop-of-length-le}
+use lib.Seq.{drop-cons}
+use Rattle.words.specs.Words.{member}
+use Rattle.words.proofs.Lists.{member-head, member-other}
 use Rattle.automaton.specs.Ceilings.{different}
 
 -- A BYTE in what is left of a list
@@ -43,20 +41,3 @@ module _ (xs : List ℕ) (i : ℕ) where
   pub different-end : length xs ≤ i → different (drop i xs) ≡ 0
   unfolding different
   different-end h = rw (drop-of-length-le xs h)
-
--- FRONTS: the first n of two lists, of which the first i are the same
-not-same : (xs ys : List ℕ) → xs ≢ ys → false ≡ same xs ys
-not-same xs ys n = sym (by-test (same xs ys) (λ e. absurd (n (same-eq xs ys e))) (λ e. e))
-
-module _ (a b : List ℕ) (n : ℕ) where
-  pub front-short : n ≤ length b → length a < n → false ≡ same (take n a) (take n b)
-  front-short h l = not-same (take n a) (take n b) (λ e. omega (arith, length-take n a, length-take-le n b h, ap length e))
-
-  pub front-differs : (i : ℕ) → i < n → getD a i 0 ≢ getD b i 0 → false ≡ same (take n a) (take n b)
-  front-differs i l d =
-      not-same (take n a) (take n b)
-      (λ e. d (sym (getD-take n a i 0 l) ∙ ap (λ (xs : List ℕ). getD xs i 0) e ∙ getD-take n b i 0 l))
-
-pub front-more : (a b : List ℕ) (i : ℕ) → i < length a → i < length b → getD a i 0 ≡ getD b i 0 → take i a ≡ take i b →
-    take (i + 1) a ≡ take (i + 1) b
-front-more a b i h l e f = rw (add-one i, take-suc a i 0 h, take-suc b i 0 l) cc

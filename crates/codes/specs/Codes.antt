@@ -6,17 +6,17 @@ use lib.Dec.{ltb, eqb}
 use lib.ListN.{length}
 use Rattle.codes.specs.Refusals.{refused-if, first-refusal}
 
+-- the refusal of a length that may not be over `longest`: 1, 2
+unfoldable pub length-refusal : (longest m : ℕ) → ℕ
+length-refusal l m = first-refusal (refused-if 1 (eqb m 0) ∷ refused-if 2 (ltb l m) ∷ [])
+
 -- the longest code that is accepted
 abbrev pub longest-code : ℕ
 longest-code = 255
 
--- the refusal of a code's length: 1, 2
-unfoldable pub length-refusal : (m : ℕ) → ℕ
-length-refusal m = first-refusal (refused-if 1 (eqb m 0) ∷ refused-if 2 (ltb longest-code m) ∷ [])
-
 -- the refusal of a code
 unfoldable pub code-refusal : (code : List ℕ) → ℕ
-code-refusal w = length-refusal (length w)
+code-refusal w = length-refusal longest-code (length w)
 
 unfoldable pub accepted : (code : List ℕ) → Bool
 accepted w = eqb (code-refusal w) 0

@@ -1,6 +1,4 @@
 pub mod Refusals
 pub mod Codes
-pub mod Sheet
 pub mod Entry
 pub mod Promise
-pub mod Inside

@@ -3,32 +3,19 @@ use mathlib.Core.Path.{_≡_, refl, sym, ap, _∙_}
 use mathlib.Core.Bool.{Bool, true, false, true≢false}
 use mathlib.Core.List.{List, [], _∷_, _++_, append-assoc}
 use mathlib.Core.Logic.{_≢_}
-use Prim.Native.Nat.{ℕ, zero, suc, _≤_, _<_}
+use Prim.Native.Nat.{ℕ, zero, suc, _≤_}
 use native.Mathlib.Omega.{arith}
 use lib.ListN.{length, getD, take}
 use Rattle.forms.specs.declared.Line.{Line}
-use Rattle.forms.specs.declared.Line.the-variants.{Opening, Code, Closed, Done, Wrong}
-use Rattle.forms.specs.Line.{line-after, kept-after, goes-on, Read, read}
+use Rattle.forms.specs.declared.Line.the-variants.{Wrong}
+use Rattle.forms.specs.Line.{line-after, kept-after, goes-on}
+use Rattle.forms.proofs.Lines.{read-on, read-end}
 use Rattle.find.specs.declared.Start.{Start}
-use Rattle.find.specs.Receipts.{Came, Ended, Told, Moved, May-follow}
-use Rattle.find.specs.Program.{Done-or-told, Some-came, Line-on, Line-read, Rises, Brought}
+use Rattle.find.specs.Receipts.{Came, Told, Moved, May-follow}
+use Rattle.find.specs.Program.{Some-came, Line-on, Line-read, Rises, Brought}
 use Rattle.find.proofs.Moving.{is-done, is-told, moved-none, moved-join, came-join}
 
--- READING: the end of the input, one byte more, or a line that is read
-read-end : (l : Line) (a : List ℕ) → goes-on l ≡ true → read l a [] ≡ read Wrong a []
-unfolding read
-read-end l a g = rw g
-
-read-one : (l : Line) (a : List ℕ) (b : ℕ) (bs : List ℕ) → goes-on l ≡ true →
-    read l a (b ∷ bs) ≡ read (line-after (length a) l b) (kept-after l b a) bs
-unfolding read
-read-one l a b bs g = rw g
-
-pub read-over : (l : Line) (a bs : List ℕ) → goes-on l ≡ false → read l a bs ≡ record { line = l; kept = a; rest = bs }
-unfolding read
-read-over l a [] g = rw g
-read-over l a (b ∷ bs) g = rw g
-
+-- a line that goes on is not wrong
 goes-not-wrong : (l : Line) → goes-on l ≡ true → l ≢ Wrong
 goes-not-wrong l g e = true≢false (sym g ∙ ap goes-on e)
 
@@ -67,13 +54,14 @@ module _ (l : Line) (a : List ℕ) (g : goes-on l ≡ true) {at k after : ℕ} {
   line-next next c more r one n e f h =
       let came : Moved Came at after (getD b 0 0 ∷ []) = rw (one-byte k b one (r .within) n) at (r .came) in (
         record {
-          so-far = is-done (record { bytes = getD b 0 0 ∷ []; came = came; reads = λ rest _. rw (e, f) (read-one l a (getD b 0 0) rest g) }, h);
+          so-far = is-done (record { bytes = getD b 0 0 ∷ []; came = came; reads = λ rest _. read-on (getD b 0 0) rest a l next c g (e, f) }, h);
           goes = λ _. refl;
         },
         λ _. (omega (arith, came .counted .exact), came .counted .fits (omega arith)),
       )
 
-pub line-failed : (l : Line) (a c : List ℕ) (at after : ℕ) → Told × Some-came at after → Line-read l a at (start Wrong false false) c after × Rises false at after
+pub line-failed : (l : Line) (a c : List ℕ) (at after : ℕ) → Told × Some-came at after →
+    Line-read l a at (start Wrong false false) c after × Rises false at after
 line-failed l a c at after t = (record { so-far = is-told (t .0) (t .1); goes = λ h. h }, λ h. absurd (true≢false (sym h)))
 
 -- TURN AFTER TURN

@@ -2,13 +2,13 @@
 use mathlib.Core.Path.{_≡_, refl, _∙_}
 use mathlib.Core.Bool.{true}
 use native.Mathlib.Omega.{arith}
-use Rattle.words.specs.Words.{byte, member, same, ends-with, is-border, largest, state-of}
+use Rattle.words.specs.Words.{byte, member, same, suffix, ends-with, is-border, largest, state-of}
 use Rattle.runs.specs.Reading.{over, place-if}
 use Rattle.automaton.specs.Arrows.{label, targets-from, forward, back-targets, try-forward, try-back, stepped}
 use Rattle.codes.specs.Refusals.{refused-if, first-refusal}
 use Rattle.codes.specs.Codes.{length-refusal, code-refusal, accepted}
-use Rattle.finder.specs.Machine.{cost-after, found-after}
-use Rattle.finder.specs.Texts.{sum}
+use Rattle.automaton.specs.Costs.{cost-after, sum}
+use Rattle.finder.specs.Machine.{found-after}
 use Rattle.forms.specs.Ascii.{ascii}
 use Rattle.forms.specs.Text.{digits-of, decimal, place-form, place-forms, end-form}
 use Rattle.find.specs.Promise.{search-form, Output-right, Sample-printed}
@@ -19,7 +19,7 @@ unfolding refused-if first-refusal length-refusal code-refusal accepted
 sample-accepted = refl
 
 sample-form : search-form (ascii "abaab") (ascii "abaababaab") ≡ ascii "(at 0)\n(at 5)\n(end (bytes 10) (hits 2) (compares 15))\n"
-unfolding byte member same ends-with is-border largest state-of label targets-from forward back-targets try-forward try-back stepped
+unfolding byte member same suffix ends-with is-border largest state-of label targets-from forward back-targets try-forward try-back stepped
     over place-if cost-after found-after sum digits-of decimal place-form place-forms end-form
 sample-form = refl
 

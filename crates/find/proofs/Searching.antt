@@ -4,105 +4,89 @@ use mathlib.Core.Bool.{Bool, true, false, not, _&&_, cond, true≢false}
 use mathlib.Core.List.{List, [], _++_, append-assoc, append-nil}
 use Prim.Native.Nat.{ℕ, _≤_, _<_}
 use native.Mathlib.Omega.{arith}
-use borrow.Author.Tests.{ltb-false, not-true, lt-ltb}
+use borrow.Author.Tests.{ltb-false, not-true}
 use lib.Dec.{eqb}
 use lib.ListN.{length, take}
 use lib.Seq.{length-take-le}
 use Rattle.words.proofs.Tests.{by-le, and-right}
+use Rattle.runs.specs.Reading.{Fed}
 use Rattle.runs.specs.Calls.{unless-refused}
-use Rattle.codes.specs.Sheet.{named}
 use Rattle.finder.specs.declared.Watch.{Watch}
-use Rattle.finder.specs.Feed.{Fed, feed}
-use Rattle.finder.specs.Entry.{feed-refusal}
-use Rattle.find.specs.declared.Turn.{Turn}
+use Rattle.find.specs.declared.Printing.{Printing}
 use Rattle.find.specs.declared.Progress.{Progress}
-use Rattle.find.specs.Printed.{piece-size, last, piece-form, Piece-taken}
-use Rattle.find.specs.Output.{cut, text-output}
-use Rattle.find.specs.Receipts.{Came, Ended, Sent, Told, Broken, unmoved, Moved, May-follow}
+use Rattle.find.specs.Printed.{piece-size, is-last, piece-refusal, piece-fed, piece-form, Piece-written}
+use Rattle.find.specs.Output.{in-pieces, text-output}
+use Rattle.find.specs.Receipts.{Came, Ended, Sent, Told, unmoved, Moved, May-follow}
 use Rattle.find.specs.Program.{Some-came, Brought, Sent-or-told, Rises, Piece-sent, Piece-printed, Search-on, Search-stopped, Searched}
-use Rattle.find.proofs.Texts.{cut-last, cut-more}
-use Rattle.find.proofs.Moving.{is-done, is-told, moved-none, moved-join}
+use Rattle.find.proofs.Pieces.{last-short}
+use Rattle.find.proofs.Texts.{in-pieces-last, in-pieces-more}
+use Rattle.find.proofs.Moving.{is-done, is-told, moved-none, moved-join, stopped-here, stopped-behind}
 
 and-not : (a b : Bool) → b ≡ true → a && not b ≡ false
 and-not true b e = rw e
 and-not false b e = refl
-
-short-last : (c : List ℕ) → length c < piece-size → last c ≡ true
-unfolding last
-short-last c h = lt-ltb (length c) piece-size h
 
 and-with : (a b : Bool) → b ≡ true → a && b ≡ a
 and-with true b e = e
 and-with false b e = refl
 
 -- A PIECE taken, and printed if that was possible
-pub taken-printed : (s : List ℕ) (x : Watch) (c : List ℕ) (k from to : ℕ) (t : Turn) (out : List ℕ) (more ok : Bool) →
-    Piece-taken s x c k t out → Sent-or-told from (take (t .printed) out) ok to → more ≡ t .more && ok →
-    Piece-printed s x c k from (record { watch = t .watch; more = more; ok = ok }) to
-taken-printed s x c k from to t out more ok f p e =
+pub written-printed : (s : List ℕ) (x : Watch) (c : List ℕ) (k from to : ℕ) (p : Printing) (out : List ℕ) (more ok : Bool) →
+    Piece-written s x c k p out → Sent-or-told from (take (p .printed) out) ok to → more ≡ p .more && ok →
+    Piece-printed s x c k from (record { watch = p .watch; more = more; ok = ok }) to
+written-printed s x c k from to p out more ok f g e =
     record {
       all =
           record {
-            done = λ h. record { sent = rw (f .printed) at (p .done h); watch = f .watch; more = e ∙ and-with (t .more) ok h ∙ f .more };
-            told = p .told;
+            done = λ h. record { sent = rw (f .printed) at (g .done h); watch = f .watch; more = e ∙ and-with (p .more) ok h ∙ f .more };
+            told = g .told;
           };
-      goes = λ h. and-right (t .more) ok (sym e ∙ h);
-    }
-
--- STOPPED where some bytes came and nothing was sent
-stopped-here : (s : List ℕ) (x : Watch) {at from after to : ℕ} → Some-came at after → Broken from to → Search-stopped s x at from after to
-stopped-here s x {from = from} c e =
-    record {
-      via = from;
-      bytes = c .bytes;
-      out = [];
-      came = c .came;
-      sent = moved-none Sent from;
-      broken = e;
-      begins = λ rest. record { rest = text-output s (cut (c .bytes ++ rest)) x; is = refl };
+      goes = λ h. and-right (p .more) ok (sym e ∙ h);
     }
 
 -- A PIECE c: what is printed for it, and behind it for what follows
 module _ (s : List ℕ) (x : Watch) (c : List ℕ) where
-  abbrev n : ℕ
-  n = feed-refusal s x (length c) piece-size
+  abbrev refused-by : ℕ
+  refused-by = piece-refusal s x c piece-size
 
-  abbrev f : Fed
-  f = feed (named s) c piece-size x
+  abbrev comes-to : Fed Watch ℕ
+  comes-to = piece-fed s x c piece-size
 
-  abbrev more : Bool
-  more = eqb n 0 && not (last c)
+  abbrev goes-further : Bool
+  goes-further = eqb refused-by 0 && not (is-last c)
 
   piece-then : (rest : List ℕ) → length c ≤ piece-size → (length c < piece-size → rest ≡ []) →
-      text-output s (cut (c ++ rest)) x ≡ piece-form n (last c) f ++ cond more (text-output s (cut rest) (unless-refused n f x .after)) []
+      text-output s (in-pieces (c ++ rest)) x
+      ≡ piece-form refused-by (is-last c) comes-to
+      ++ cond goes-further (text-output s (in-pieces rest) (unless-refused refused-by comes-to x .after)) []
   unfolding text-output
   piece-then rest h e =
       by-le piece-size (length c)
-      (λ (l : piece-size ≤ length c). let full : length c ≡ piece-size = omega arith in rw (cut-more c rest full))
+      (λ (l : piece-size ≤ length c). let full : length c ≡ piece-size = omega arith in rw (in-pieces-more c rest full))
       (λ (l : length c < piece-size).
-      let none : more ≡ false = and-not (eqb n 0) (last c) (short-last c l) in
-      rw (e l, append-nil c, cut-last c l, none))
+      let none : goes-further ≡ false = and-not (eqb refused-by 0) (is-last c) (last-short c l) in
+      rw (e l, append-nil c, in-pieces-last c l, none))
 
   -- a piece that is followed by another is full
-  more-full : more ≡ true → piece-size ≤ length c
-  unfolding last
-  more-full e = ltb-false (length c) piece-size (not-true (last c) (and-right (eqb n 0) (not (last c)) e))
+  more-full : goes-further ≡ true → piece-size ≤ length c
+  unfolding is-last
+  more-full e = ltb-false (length c) piece-size (not-true (is-last c) (and-right (eqb refused-by 0) (not (is-last c)) e))
 
   -- it came, fewer bytes than a full one only where the input ended, and what is to be printed for it was sent
   module _
       {at after : ℕ} (came : Moved Came at after c) (h : length c ≤ piece-size) (ends : length c < piece-size → Ended after)
       {from to : ℕ} {r : Progress} where
-    piece-on : Piece-sent x c n f from r to → Search-on s x at from (r .watch) (r .more) after to
+    piece-on : Piece-sent x c refused-by comes-to from r to → Search-on s x at from (r .watch) (r .more) after to
     unfolding May-follow
     piece-on p =
         record {
           bytes = c;
-          out = piece-form n (last c) f;
+          out = piece-form refused-by (is-last c) comes-to;
           came = came;
           sent = p .sent;
           prints = λ rest follows.
               rw (p .watch, p .more)
-              (piece-then rest h (λ l. follows (p .more ∙ and-not (eqb n 0) (last c) (short-last c l)) (ends l)));
+              (piece-then rest h (λ l. follows (p .more ∙ and-not (eqb refused-by 0) (is-last c) (last-short c l)) (ends l)));
         }
 
     pub piece-searched : Piece-printed s x c piece-size from r to → Searched s x at from r after to × Rises (r .more) at after
@@ -111,7 +95,7 @@ module _ (s : List ℕ) (x : Watch) (c : List ℕ) where
         so-far =
             record {
               done = λ e. piece-on (p .all .done e);
-              told = λ e. (p .all .told e .0, stopped-here s x (record { bytes = c; came = came }) (p .all .told e .1));
+              told = λ e. (p .all .told e .0, stopped-here _ (record { bytes = c; came = came }) (p .all .told e .1));
             };
         goes = p .goes;
       },
@@ -143,7 +127,7 @@ search-started s x at from =
 pub search-failed : (s : List ℕ) (x y : Watch) (at from after : ℕ) → Told × Some-came at after →
     Searched s x at from (progress y false false) after from × Rises false at after
 search-failed s x y at from after t =
-    (record { so-far = is-told (t .0) (stopped-here s x (t .1) (unmoved from from refl)); goes = λ e. e }, λ h. absurd (true≢false (sym h)))
+    (record { so-far = is-told (t .0) (stopped-here _ (t .1) (unmoved from from refl)); goes = λ e. e }, λ h. absurd (true≢false (sym h)))
 
 -- TURN AFTER TURN
 search-join : {s : List ℕ} {x y z : Watch} {t : Bool} {at mid after from via to : ℕ} →
@@ -161,23 +145,7 @@ search-join f g =
 
 stopped-join : {s : List ℕ} {x y : Watch} {at mid after from via to : ℕ} →
     Search-on s x at from y true mid via → Search-stopped s y mid via after to → Search-stopped s x at from after to
-stopped-join f g =
-    record {
-      via = g .via;
-      bytes = f .bytes ++ g .bytes;
-      out = f .out ++ g .out;
-      came = moved-join (f .came) (g .came);
-      sent = moved-join (f .sent) (g .sent);
-      broken = g .broken;
-      begins = λ rest.
-          let b = g .begins rest in
-          record {
-            rest = b .rest;
-            is =
-                rw (append-assoc (f .bytes) (g .bytes) rest, append-assoc (f .out) (g .out), ← b .is)
-                (f .prints (g .bytes ++ rest) (λ e. absurd (true≢false e)));
-          };
-    }
+stopped-join f g = stopped-behind (f .came) (f .sent) (λ rest. f .prints rest (λ e. absurd (true≢false e))) g
 
 pub search-turned : {s : List ℕ} {x : Watch} {at mid after from via to : ℕ} {q r : Progress} →
     Searched s x at from q mid via → q .more ≡ true → Searched s (q .watch) mid via r after to → Searched s x at from r after to

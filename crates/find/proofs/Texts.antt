@@ -6,54 +6,47 @@ use Prim.Native.Nat.{ℕ, zero, suc, _+_, _*_, _-_, _/_, _≤_, _<_}
 use native.Mathlib.Omega.{arith}
 use borrow.Author.Tests.{lt-ltb, le-ltb}
 use lib.ListN.{length, take, drop, length-append, length-drop, take-append-drop}
-use lib.Seq.{length-take-le, take-all, take-append-seam, drop-append-seam}
+use lib.Seq.{length-take-le, take-append-seam, drop-append-seam}
 use Rattle.words.proofs.Tests.{by-le}
 use Rattle.runs.specs.Reading.{longest-text, over}
 use Rattle.runs.specs.Calls.{Call, unless-refused}
 use Rattle.runs.proofs.Over.{over-nil, over-append}
-use Rattle.runs.proofs.Feeds.{takes-whole}
 use Rattle.codes.specs.Refusals.{refused-if, first-refusal}
 use Rattle.codes.specs.Codes.{accepted}
-use Rattle.codes.specs.Sheet.{sheet}
-use Rattle.codes.proofs.Sheets.{sheet-named}
-use Rattle.finder.specs.Feed.{opened, feeder, feed}
+use Rattle.sheets.specs.Sheet.{sheet}
+use Rattle.sheets.proofs.Sheets.{sheet-named}
+use Rattle.finder.specs.Feed.{opened, feed}
 use Rattle.finder.specs.Machine.{found-after, call-refusal}
 use Rattle.finder.specs.Texts.{places, watch-of}
-use Rattle.finder.specs.Entry.{feed-refusal}
-use Rattle.finder.proofs.Places.{reported-one}
-use Rattle.finder.proofs.Texts.{opened-of, piece-reads}
+use Rattle.finder.proofs.Texts.{opened-of, whole-read}
 use Rattle.finder.proofs.Entries.{same-refusal}
-use Rattle.forms.specs.Text.{place-form, place-forms, refused-form}
-use Rattle.find.specs.Printed.{piece-size, last, end-of, piece-form}
-use Rattle.find.specs.Output.{pieces, cut, text-output}
+use Rattle.forms.specs.Text.{place-forms, refused-form}
+use Rattle.forms.proofs.Writing.{forms-append}
+use Rattle.find.specs.Printed.{piece-size, is-last, piece-refusal, end-of, piece-form}
+use Rattle.find.specs.Output.{pieces, in-pieces, text-output}
 use Rattle.find.specs.Promise.{search-form}
-
--- PLACES printed at once, or the first ones and then the others
-forms-append : (ps qs : List ℕ) → place-forms (ps ++ qs) ≡ place-forms ps ++ place-forms qs
-unfolding place-forms
-forms-append [] qs = refl
-forms-append (p ∷ ps) qs = rw (forms-append ps qs) (sym (append-assoc (place-form p) (place-forms ps) (place-forms qs)))
+use Rattle.find.proofs.Pieces.{last-short, last-full}
 
 -- it is refused, with 7, only where the text would be too long
-abbrev call : (piece : List ℕ) → Call
-call c = record { piece = c; room = piece-size }
+abbrev piece-call : (piece : List ℕ) → Call
+piece-call c = record { piece = c; room = piece-size }
 
-call-taken : (c : List ℕ) (n : ℕ) → n + length c ≤ longest-text → call-refusal (call c) n ≡ 0
+call-taken : (c : List ℕ) (n : ℕ) → n + length c ≤ longest-text → call-refusal (piece-call c) n ≡ 0
 unfolding call-refusal first-refusal refused-if
 call-taken c n h = rw (le-ltb longest-text (n + length c) h)
 
-call-over : (c : List ℕ) (n : ℕ) → longest-text < n + length c → call-refusal (call c) n ≡ 7
+call-over : (c : List ℕ) (n : ℕ) → longest-text < n + length c → call-refusal (piece-call c) n ≡ 7
 unfolding call-refusal first-refusal refused-if
 call-over c n h = rw (lt-ltb longest-text (n + length c) h)
 
 -- THE PIECES of a text, enough of them: the last one, or a full one and the others
 pieces-last : (k : ℕ) (ts : List ℕ) → length ts < piece-size → pieces (suc k) ts ≡ ts ∷ []
-unfolding pieces last
-pieces-last k ts h = rw (lt-ltb (length ts) piece-size h)
+unfolding pieces
+pieces-last k ts h = rw (last-short ts h)
 
 pieces-more : (k : ℕ) (ts : List ℕ) → piece-size ≤ length ts → pieces (suc k) ts ≡ take piece-size ts ∷ pieces k (drop piece-size ts)
-unfolding pieces last
-pieces-more k ts h = rw (le-ltb (length ts) piece-size h)
+unfolding pieces
+pieces-more k ts h = rw (last-full ts h)
 
 pieces-enough : (k j : ℕ) (ts : List ℕ) → length ts < k → length ts < j → pieces k ts ≡ pieces j ts
 pieces-enough zero j ts h l = absurd (omega arith)
@@ -65,21 +58,17 @@ pieces-enough (suc k) (suc j) ts h l =
     rw (pieces-more k ts m, pieces-more j ts m, pieces-enough k j (drop piece-size ts) (omega arith) (omega arith)))
     (λ (m : length ts < piece-size). rw (pieces-last k ts m, pieces-last j ts m))
 
-pub cut-last : (ts : List ℕ) → length ts < piece-size → cut ts ≡ ts ∷ []
-unfolding cut
-cut-last ts h = pieces-last (length ts) ts h
+pub in-pieces-last : (ts : List ℕ) → length ts < piece-size → in-pieces ts ≡ ts ∷ []
+unfolding in-pieces
+in-pieces-last ts h = pieces-last (length ts) ts h
 
-pub cut-more : (c ts : List ℕ) → length c ≡ piece-size → cut (c ++ ts) ≡ c ∷ cut ts
-unfolding cut
-cut-more c ts e =
+pub in-pieces-more : (c ts : List ℕ) → length c ≡ piece-size → in-pieces (c ++ ts) ≡ c ∷ in-pieces ts
+unfolding in-pieces
+in-pieces-more c ts e =
     let size : length (c ++ ts) ≡ length c + length ts = length-append c ts in
     let front : take piece-size (c ++ ts) ≡ c = rw (← e) (take-append-seam c ts) in
     let back : drop piece-size (c ++ ts) ≡ ts = rw (← e) (drop-append-seam c ts) in
     rw (pieces-more (length (c ++ ts)) (c ++ ts) (omega arith), front, back, pieces-enough (length (c ++ ts)) (suc (length ts)) ts (omega arith) (omega arith))
-
-full-last : (c : List ℕ) → length c ≡ piece-size → last c ≡ false
-unfolding last
-full-last c e = le-ltb (length c) piece-size (omega arith)
 
 -- printed for a piece, and behind it
 end-or-more : (t : Bool) (a b c : List ℕ) → (a ++ cond t b []) ++ cond (not t) c [] ≡ a ++ cond t b c
@@ -96,8 +85,8 @@ module _ (w rest : List ℕ) (good : accepted w ≡ true) where
 
   -- ONE PIECE c after the bytes bs
   module _ (c bs : List ℕ) where
-    refusal-is : feed-refusal buffer (watch-of w bs) (length c) piece-size ≡ call-refusal (call c) (length bs)
-    refusal-is = same-refusal w rest good (call c) bs
+    refusal-is : piece-refusal buffer (watch-of w bs) c piece-size ≡ call-refusal (piece-call c) (length bs)
+    refusal-is = same-refusal w rest good (piece-call c) bs
 
     piece-over : (cs : List (List ℕ)) → longest-text < length bs + length c → text-output buffer (c ∷ cs) (watch-of w bs) ≡ refused-form 7
     unfolding text-output piece-form
@@ -105,20 +94,16 @@ module _ (w rest : List ℕ) (good : accepted w ≡ true) where
 
     piece-whole : length c ≤ piece-size →
         let f = feed w c piece-size (watch-of w bs) in (f .after ≡ watch-of w (bs ++ c)) × (f .told ≡ places-after bs c)
-    piece-whole h =
-        let n : ℕ = feed w c piece-size (watch-of w bs) .taken in
-        let all : take n c ≡ c = take-all n c (omega (arith, takes-whole (feeder w) (reported-one w) c piece-size (watch-of w bs) (omega arith))) in
-        let r = rw all at (piece-reads w c piece-size bs) in
-        (r .state, r .tells)
+    piece-whole h = let r = whole-read w c piece-size bs h in (r .state, r .tells)
 
     piece-printed : length c ≤ piece-size → length bs + length c ≤ longest-text → (cs : List (List ℕ)) →
         text-output buffer (c ∷ cs) (watch-of w bs)
-        ≡ place-forms (places-after bs c) ++ cond (last c) (end-of (watch-of w (bs ++ c))) (text-output buffer cs (watch-of w (bs ++ c)))
+        ≡ place-forms (places-after bs c) ++ cond (is-last c) (end-of (watch-of w (bs ++ c))) (text-output buffer cs (watch-of w (bs ++ c)))
     unfolding text-output piece-form unless-refused
     piece-printed h fits cs =
         let r = piece-whole h in
         rw (refusal-is, call-taken c (length bs) fits, sheet-named, r .0, r .1)
-        (end-or-more (last c) (place-forms (places-after bs c)) (end-of (watch-of w (bs ++ c))) (text-output buffer cs (watch-of w (bs ++ c))))
+        (end-or-more (is-last c) (place-forms (places-after bs c)) (end-of (watch-of w (bs ++ c))) (text-output buffer cs (watch-of w (bs ++ c))))
 
   -- places printed for one text and then for another
   forms-after : (bs ts us more : List ℕ) →
@@ -129,8 +114,8 @@ module _ (w rest : List ℕ) (good : accepted w ≡ true) where
 
   -- FULL PIECES ts, then the text us
   full-pieces : (j : ℕ) (ts us bs : List ℕ) → length ts ≡ piece-size * j → length bs + length ts ≤ longest-text →
-      text-output buffer (cut (ts ++ us)) (watch-of w bs)
-      ≡ place-forms (places-after bs ts) ++ text-output buffer (cut us) (watch-of w (bs ++ ts))
+      text-output buffer (in-pieces (ts ++ us)) (watch-of w bs)
+      ≡ place-forms (places-after bs ts) ++ text-output buffer (in-pieces us) (watch-of w (bs ++ ts))
   unfolding place-forms
   full-pieces zero [] us bs full fits = rw (over-nil (found-after w) bs, append-nil bs) refl
   full-pieces zero (t ∷ ts) us bs full fits = absurd (omega arith)
@@ -141,24 +126,23 @@ module _ (w rest : List ℕ) (good : accepted w ≡ true) where
       let left : length d ≡ length ts - piece-size = length-drop piece-size ts in
       let whole : c ++ d ≡ ts = take-append-drop piece-size ts in
       let split : ts ++ us ≡ c ++ (d ++ us) = ap (λ (l : List ℕ). l ++ us) (sym whole) ∙ append-assoc c d us in
-      let first : cut (ts ++ us) ≡ c ∷ cut (d ++ us) = ap cut split ∙ cut-more c (d ++ us) size in
+      let first : in-pieces (ts ++ us) ≡ c ∷ in-pieces (d ++ us) = ap in-pieces split ∙ in-pieces-more c (d ++ us) size in
       let more = full-pieces j d us (bs ++ c) (omega arith) (omega (arith, length-append bs c)) in
-      rw (first, piece-printed c bs (omega arith) (omega arith) (cut (d ++ us)), full-last c size)
+      rw (first, piece-printed c bs (omega arith) (omega arith) (in-pieces (d ++ us)), last-full c (omega arith))
       (ap (λ (l : List ℕ). place-forms (places-after bs c) ++ l) more
-      ∙ forms-after bs c d (text-output buffer (cut us) (watch-of w (bs ++ c ++ d)))
+      ∙ forms-after bs c d (text-output buffer (in-pieces us) (watch-of w (bs ++ c ++ d)))
       ∙ rw (append-assoc bs c d, whole) refl)
 
   -- THE LAST PIECE
   last-piece : (us bs : List ℕ) → length us < piece-size → length bs + length us ≤ longest-text →
-      text-output buffer (cut us) (watch-of w bs) ≡ place-forms (places-after bs us) ++ end-of (watch-of w (bs ++ us))
-  unfolding last
-  last-piece us bs h fits = rw (cut-last us h, piece-printed us bs (omega arith) fits [], lt-ltb (length us) piece-size h) refl
+      text-output buffer (in-pieces us) (watch-of w bs) ≡ place-forms (places-after bs us) ++ end-of (watch-of w (bs ++ us))
+  last-piece us bs h fits = rw (in-pieces-last us h, piece-printed us bs (omega arith) fits [], last-short us h) refl
 
   -- A WHOLE TEXT: its first j pieces are full
   from-opened : (j : ℕ) (ts : List ℕ) → piece-size * j ≤ length ts → piece-size * j ≤ longest-text →
       let n = piece-size * j in
-      text-output buffer (cut ts) opened
-      ≡ place-forms (places w (take n ts)) ++ text-output buffer (cut (drop n ts)) (watch-of w (take n ts))
+      text-output buffer (in-pieces ts) opened
+      ≡ place-forms (places w (take n ts)) ++ text-output buffer (in-pieces (drop n ts)) (watch-of w (take n ts))
   from-opened j ts h fits =
       let n : ℕ = piece-size * j in
       let size : length (take n ts) ≡ n = length-take-le n ts h in
@@ -166,7 +150,7 @@ module _ (w rest : List ℕ) (good : accepted w ≡ true) where
       (full-pieces j (take n ts) (drop n ts) [] size (omega arith))
 
   -- a text that a watch takes, and one of which it takes j pieces and not another
-  pub text-right : (ts : List ℕ) → length ts ≤ longest-text → text-output buffer (cut ts) opened ≡ search-form w ts
+  pub text-right : (ts : List ℕ) → length ts ≤ longest-text → text-output buffer (in-pieces ts) opened ≡ search-form w ts
   text-right ts h =
       let j : ℕ = length ts / piece-size in
       let n : ℕ = piece-size * j in
@@ -179,13 +163,14 @@ module _ (w rest : List ℕ) (good : accepted w ≡ true) where
       ∙ rw whole refl
 
   pub text-long : (j : ℕ) (ts : List ℕ) → piece-size * j ≤ longest-text → longest-text < piece-size * suc j → piece-size * suc j ≤ length ts →
-      text-output buffer (cut ts) opened ≡ place-forms (places w (take (piece-size * j) ts)) ++ refused-form 7
+      text-output buffer (in-pieces ts) opened ≡ place-forms (places w (take (piece-size * j) ts)) ++ refused-form 7
   text-long j ts fits over-long h =
       let n : ℕ = piece-size * j in
       let us : List ℕ = drop n ts in
       let c : List ℕ = take piece-size us in
+      let d : List ℕ = drop piece-size us in
       let size : length (take n ts) ≡ n = length-take-le n ts (omega arith) in
       let left : length us ≡ length ts - n = length-drop n ts in
       let full : length c ≡ piece-size = length-take-le piece-size us (omega arith) in
-      let first : cut us ≡ c ∷ cut (drop piece-size us) = ap cut (sym (take-append-drop piece-size us)) ∙ cut-more c (drop piece-size us) full in
-      from-opened j ts (omega arith) fits ∙ rw (first, piece-over c (take n ts) (cut (drop piece-size us)) (omega arith)) refl
+      let first : in-pieces us ≡ c ∷ in-pieces d = ap in-pieces (sym (take-append-drop piece-size us)) ∙ in-pieces-more c d full in
+      from-opened j ts (omega arith) fits ∙ rw (first, piece-over c (take n ts) (in-pieces d) (omega arith)) refl

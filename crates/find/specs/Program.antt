@@ -5,11 +5,9 @@ use mathlib.Core.List.{List, [], _++_}
 use Prim.Native.Nat.{ℕ, _^_, _≤_, _<_}
 use lib.Dec.{eqb}
 use lib.ListN.{length, take}
+use Rattle.runs.specs.Reading.{Fed}
 use Rattle.runs.specs.Calls.{unless-refused}
-use Rattle.codes.specs.Sheet.{named}
 use Rattle.finder.specs.declared.Watch.{Watch}
-use Rattle.finder.specs.Feed.{Fed, feed}
-use Rattle.finder.specs.Entry.{feed-refusal}
 use Rattle.forms.specs.declared.Line.{Line}
 use Rattle.forms.specs.declared.Line.the-variants.{Wrong}
 use Rattle.forms.specs.Line.{goes-on, read}
@@ -18,8 +16,8 @@ use Rattle.find.specs.declared.system.Got.the-variants.{Bytes, Failed}
 use Rattle.find.specs.declared.Start.{Start}
 use Rattle.find.specs.declared.Progress.{Progress}
 use Rattle.find.specs.Receipts.{Came, Ended, Sent, Told, Broken, Moved, May-follow}
-use Rattle.find.specs.Printed.{last, piece-form}
-use Rattle.find.specs.Output.{cut, text-output, output}
+use Rattle.find.specs.Printed.{is-last, piece-refusal, piece-fed, piece-form}
+use Rattle.find.specs.Output.{in-pieces, text-output, output}
 
 -- either something is done, or standard error was told that the search is not complete, and something else holds
 pub record Done-or-told (ok : Bool) (Done Else : Type 0) : Type 0 where
@@ -68,14 +66,14 @@ pub record Line-read (line : Line) (kept : List ℕ) (at : ℕ) (r : Start) (kep
   pub goes : r .more ≡ true → r .ok ≡ true
 
 -- A PIECE was taken from watch x on, and what is to be printed for it was sent
-pub record Piece-sent (x : Watch) (piece : List ℕ) (refusal : ℕ) (f : Fed) (from : ℕ) (r : Progress) (to : ℕ) : Type 0 where
-  pub sent : Moved Sent from to (piece-form refusal (last piece) f)
+pub record Piece-sent (x : Watch) (piece : List ℕ) (refusal : ℕ) (f : Fed Watch ℕ) (from : ℕ) (r : Progress) (to : ℕ) : Type 0 where
+  pub sent : Moved Sent from to (piece-form refusal (is-last piece) f)
   pub watch : r .watch ≡ unless-refused refusal f x .after
-  pub more : r .more ≡ eqb refusal 0 && not (last piece)
+  pub more : r .more ≡ eqb refusal 0 && not (is-last piece)
 
 pub record Piece-printed (sheet : List ℕ) (x : Watch) (piece : List ℕ) (k from : ℕ) (r : Progress) (to : ℕ) : Type 0 where
   pub all :
-      Done-or-told (r .ok) (Piece-sent x piece (feed-refusal sheet x (length piece) k) (feed (named sheet) piece k x) from r to) (Broken from to)
+      Done-or-told (r .ok) (Piece-sent x piece (piece-refusal sheet x piece k) (piece-fed sheet x piece k) from r to) (Broken from to)
   pub goes : r .more ≡ true → r .ok ≡ true
 
 -- THE SEARCH, from watch x to watch y: bytes came, and those were sent that are to be printed for them. This holds whatever follows them; only where no
@@ -87,17 +85,22 @@ pub record Search-on (sheet : List ℕ) (x : Watch) (at from : ℕ) (y : Watch) 
   pub sent : Moved Sent from to out
   pub prints :
       (rest : List ℕ) → (more ≡ false → May-follow after rest) →
-      text-output sheet (cut (bytes ++ rest)) x ≡ out ++ cond more (text-output sheet (cut rest) y) []
+      text-output sheet (in-pieces (bytes ++ rest)) x ≡ out ++ cond more (text-output sheet (in-pieces rest) y) []
 
--- a search that was stopped: bytes came, and those were sent that are to be printed first, whatever follows them
-pub record Search-stopped (sheet : List ℕ) (x : Watch) (at from after to : ℕ) : Type 0 where
+-- STOPPED, where `prints` tells what is to be sent: bytes came, and those sent before a write failed, or all, are what is to be sent first, whatever follows
+-- the bytes that came
+pub record Stopped-in (prints : List ℕ → List ℕ) (at from after to : ℕ) : Type 0 where
   pub via : ℕ
   pub bytes : List ℕ
   pub out : List ℕ
   pub came : Moved Came at after bytes
   pub sent : Moved Sent from via out
   pub broken : Broken via to
-  pub begins : (rest : List ℕ) → Start-of out (text-output sheet (cut (bytes ++ rest)) x)
+  pub starts : (rest : List ℕ) → Start-of out (prints (bytes ++ rest))
+
+-- a search that was stopped
+abbrev pub Search-stopped : (sheet : List ℕ) → Watch → (at from after to : ℕ) → Type 0
+Search-stopped s x at from after to = Stopped-in (λ ts. text-output s (in-pieces ts) x) at from after to
 
 -- what one piece, and the loop over the pieces, come to
 pub record Searched (sheet : List ℕ) (x : Watch) (at from : ℕ) (r : Progress) (after to : ℕ) : Type 0 where
@@ -105,24 +108,17 @@ pub record Searched (sheet : List ℕ) (x : Watch) (at from : ℕ) (r : Progress
   pub goes : r .more ≡ true → r .ok ≡ true
 
 -- A COMPLETE RUN: bytes came and bytes were sent, so many, and those sent are the output of the whole input, whatever it has behind those that came
-pub record Complete (came sent : ℕ) : Type 0 where
+pub record Complete (after to : ℕ) : Type 0 where
   pub bytes : List ℕ
   pub out : List ℕ
-  pub read : Moved Came 0 came bytes
-  pub wrote : Moved Sent 0 sent out
-  pub right : (rest : List ℕ) → May-follow came rest → out ≡ output (bytes ++ rest)
+  pub came : Moved Came 0 after bytes
+  pub sent : Moved Sent 0 to out
+  pub right : (rest : List ℕ) → May-follow after rest → out ≡ output (bytes ++ rest)
 
--- A RUN THAT WAS STOPPED: those sent before a write failed, or all, are what the output begins with, whatever the input has behind those that came; so they
--- have no end form
-pub record Stopped (came sent : ℕ) : Type 0 where
-  pub via : ℕ
-  pub bytes : List ℕ
-  pub out : List ℕ
-  pub read : Moved Came 0 came bytes
-  pub wrote : Moved Sent 0 via out
-  pub broken : Broken via sent
-  pub begins : (rest : List ℕ) → Start-of out (output (bytes ++ rest))
+-- A RUN THAT WAS STOPPED: those sent are what the output begins with, whatever the input has behind those that came; so they have no end form
+abbrev pub Stopped : (after to : ℕ) → Type 0
+Stopped after to = Stopped-in output 0 0 after to
 
 -- THE PROGRAM's promise: a complete run, or it was stopped, and standard error was told
-abbrev pub Ran : (complete : Bool) → (came sent : ℕ) → Type 0
-Ran r came sent = Done-or-told r (Complete came sent) (Stopped came sent)
+abbrev pub Ran : (complete : Bool) → (after to : ℕ) → Type 0
+Ran r after to = Done-or-told r (Complete after to) (Stopped after to)

@@ -1,6 +1,6 @@
 -- RECEIPTS for what the system did. No contract can say which bytes a call reads or writes, so these are shut names: anyone can state one, and its maker
 -- below makes it. Each maker is for one proof of src/system.rt, as tests/receipts sees: make-came and make-ended for `read_some`, make-sent for
--- `print`, make-told for `give_up`.
+-- `send`, make-told for `give_up`.
 use mathlib.Core.Path.{_≡_}
 use mathlib.Core.List.{List, []}
 use Prim.Native.Nat.{ℕ, _+_, _^_, _≤_, _<_}

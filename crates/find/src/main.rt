@@ -5,22 +5,25 @@ mod system;
 
 ghost use mathlib.Core.Path.{_≡_};
 ghost use mathlib.Core.Bool.{true, false};
-ghost use Prim.Native.Nat.{_+_, _≤_};
+ghost use Prim.Native.Nat.{_≤_};
 ghost use lib.ListN.{length, take};
-ghost use Rattle.runs.specs.Reading.{ending-refusal};
 ghost use Rattle.finder.specs.Feed.{opened};
 ghost use Rattle.forms.specs.Line.{goes-on};
 ghost use Rattle.forms.specs.Text.{refused-form};
-ghost use Rattle.find.specs.Printed.{prepared-refusal, prepared-sheet, line-refusal, line-sheet, room, Piece-taken};
+ghost use Rattle.find.specs.Printed.{prepared-refusal, prepared-sheet, line-refusal, line-sheet, print-room, Piece-written};
 ghost use Rattle.find.specs.Program.{Rises, Got-into, Line-read, Sent-or-told, Piece-printed, Searched, Ran};
-use codes::Answer;
 use finder::Watch;
 use forms::Line;
-use runs::Ending;
 use system::Got;
 
 // The bytes of a piece; fewer make the last one.
 const PIECE: usize = 4096;
+
+// Room for what is printed with a place for each byte of a piece.
+const PRINTED: usize = 16 * PIECE + 75;
+
+// Room for one byte more than the longest code has.
+const KEPT: usize = codes::LONGEST as usize + 1;
 
 // Reads until a buffer is full or the input ends, whatever each read brings.
 fn read_full(came: &mut u64, buffer: &mut [u8]) -> Got
@@ -50,9 +53,11 @@ struct Start {
 }
 
 // One more byte of the first line. An input that ends is not of the form.
-fn read_byte(came: &mut u64, line: Line, kept: &mut [u8; 256]) -> Start
+fn read_byte(came: &mut u64, line: Line, kept: &mut [u8; KEPT]) -> Start
     requires { ⌜ goes-on line ≡ true ⌝ }
-    ensures { λ r. ⌜ Line-read line (now (kept .entry)) (now (came .entry)) r (now (kept .exit)) (now (came .exit)) × Rises (r .more) (now (came .entry)) (now (came .exit)) ⌝ }
+    ensures { λ r. ⌜
+        Line-read line (now (kept .entry)) (now (came .entry)) r (now (kept .exit)) (now (came .exit))
+        × Rises (r .more) (now (came .entry)) (now (came .exit)) ⌝ }
 {
     let mut one = [0u8; 1];
     let got = system::read_some(came, &mut one);
@@ -81,7 +86,7 @@ fn read_byte(came: &mut u64, line: Line, kept: &mut [u8; 256]) -> Start
 }
 
 // The first line, a byte at a time, so that the text begins where the line ends. Each turn counts a byte that came: so it ends.
-fn read_line(came: &mut u64, kept: &mut [u8; 256]) -> Start
+fn read_line(came: &mut u64, kept: &mut [u8; KEPT]) -> Start
     ensures { λ r. ⌜ (r .more ≡ false) × Line-read (Line.Opening 0) (now (kept .entry)) (now (came .entry)) r (now (kept .exit)) (now (came .exit)) ⌝ }
 {
     let mut start = Start {
@@ -98,21 +103,22 @@ fn read_line(came: &mut u64, kept: &mut [u8; 256]) -> Start
 
 // Prepares the sheet of the first n bytes that were kept; the refusal, 0 for none, 8 if fewer were kept.
 fn prepare_code(kept: &[u8], n: usize, sheet: &mut [u8]) -> u32
-    ensures { λ r. ⌜ (r ≡ prepared-refusal (now (kept .entry)) n (length (now (sheet .entry)))) × (now (sheet .exit) ≡ prepared-sheet (now (kept .entry)) n (now (sheet .entry))) ⌝ }
+    ensures { λ r. ⌜
+        (r ≡ prepared-refusal (now (kept .entry)) n (length (now (sheet .entry))))
+        × (now (sheet .exit) ≡ prepared-sheet (now (kept .entry)) n (now (sheet .entry))) ⌝ }
 {
     if kept.len() < n {
         return 8;
     }
-    let answer = codes::prepare(&kept[..n], sheet);
-    match answer {
-        Answer::Value(_) => 0,
-        Answer::Refused(number) => number,
-    }
+    let answer = sheets::prepare(&kept[..n], sheet);
+    answer.refusal()
 }
 
 // The refusal of the first line, 0 for none: then the sheet of its code is prepared.
-fn prepare_line(line: Line, kept: &[u8; 256], sheet: &mut [u8]) -> u32
-    ensures { λ r. ⌜ (r ≡ line-refusal line (now (kept .entry)) (length (now (sheet .entry)))) × (now (sheet .exit) ≡ line-sheet line (now (kept .entry)) (now (sheet .entry))) ⌝ }
+fn prepare_line(line: Line, kept: &[u8; KEPT], sheet: &mut [u8]) -> u32
+    ensures { λ r. ⌜
+        (r ≡ line-refusal line (now (kept .entry)) (length (now (sheet .entry))))
+        × (now (sheet .exit) ≡ line-sheet line (now (kept .entry)) (now (sheet .entry))) ⌝ }
 {
     match line {
         Line::Opening(_) => 8,
@@ -124,34 +130,29 @@ fn prepare_line(line: Line, kept: &[u8; 256], sheet: &mut [u8]) -> u32
 }
 
 // What a piece leads to: the watch, the bytes to print, and whether more of the text is to be read.
-struct Turn {
+struct Printing {
     watch: Watch,
     printed: usize,
     more: bool,
 }
 
-// The number of a refused feeding, 0 for one that was not refused.
-fn refusal_of(ending: Ending) -> u32
-    ensures { λ r. ⌜ r ≡ ending-refusal ending ⌝ }
-{
-    match ending {
-        Ending::PieceDone => 0,
-        Ending::ListFull => 0,
-        Ending::Refused(number) => number,
-    }
-}
-
 // Feeds a piece, and puts what is to be printed for it at the start of a buffer.
-fn take_piece(sheet: &[u8], watch: Watch, piece: &[u8], places: &mut [u32], out: &mut [u8]) -> Turn
-    requires { ⌜ room (length (now places)) ≤ length (now out) ⌝ }
-    ensures { λ r. ⌜ Piece-taken (now (sheet .entry)) watch (now (piece .entry)) (length (now (places .entry))) r (now (out .exit)) ⌝ }
+fn write_piece(
+    sheet: &[u8],
+    watch: Watch,
+    piece: &[u8],
+    places: &mut [u32],
+    out: &mut [u8],
+) -> Printing
+    requires { ⌜ print-room (length (now places)) ≤ length (now out) ⌝ }
+    ensures { λ r. ⌜ Piece-written (now (sheet .entry)) watch (now (piece .entry)) (length (now (places .entry))) r (now (out .exit)) ⌝ }
 {
     let f = finder::feed(sheet, watch, piece, places);
     let next = f.watch;
     let ending = f.ending;
-    let refusal = refusal_of(ending);
+    let refusal = ending.refusal();
     if refusal != 0 {
-        return Turn {
+        return Printing {
             watch: next,
             printed: forms::put_refused(out, 0, refusal),
             more: false,
@@ -160,13 +161,13 @@ fn take_piece(sheet: &[u8], watch: Watch, piece: &[u8], places: &mut [u32], out:
     let n = f.written as usize;
     let end = forms::put_places(out, 0, &places[..n]);
     if piece.len() < PIECE {
-        return Turn {
+        return Printing {
             watch: next,
             printed: forms::put_end(out, end, next.taken, next.hits, next.compares),
             more: false,
         };
     }
-    Turn {
+    Printing {
         watch: next,
         printed: end,
         more: true,
@@ -190,18 +191,19 @@ fn print_piece(
     out: &mut [u8],
     sent: &mut u64,
 ) -> Progress
-    requires { ⌜ (n ≤ length (now buffer)) × (room (length (now places)) ≤ length (now out)) ⌝ }
-    ensures { λ r. ⌜ Piece-printed (now (sheet .entry)) watch (take n (now (buffer .entry))) (length (now (places .entry))) (now (sent .entry)) r (now (sent .exit)) ⌝ }
+    requires { ⌜ (n ≤ length (now buffer)) × (print-room (length (now places)) ≤ length (now out)) ⌝ }
+    ensures { λ r. ⌜
+        Piece-printed (now (sheet .entry)) watch (take n (now (buffer .entry))) (length (now (places .entry))) (now (sent .entry)) r (now (sent .exit)) ⌝ }
 {
-    let turn = take_piece(sheet, watch, &buffer[..n], places, out);
-    let next = turn.watch;
-    let more = turn.more;
-    let k = turn.printed;
-    let ok = system::print(sent, &out[..k]);
+    let printing = write_piece(sheet, watch, &buffer[..n], places, out);
+    let next = printing.watch;
+    let more = printing.more;
+    let k = printing.printed;
+    let sent_all = system::send(sent, &out[..k]);
     Progress {
         watch: next,
-        more: more && ok,
-        ok: ok,
+        more: more && sent_all,
+        ok: sent_all,
     }
 }
 
@@ -209,13 +211,15 @@ fn print_piece(
 fn search_piece(
     sheet: &[u8],
     watch: Watch,
-    buffer: &mut [u8; 4096],
-    places: &mut [u32; 4096],
-    out: &mut [u8; 65611],
+    buffer: &mut [u8; PIECE],
+    places: &mut [u32; PIECE],
+    out: &mut [u8; PRINTED],
     came: &mut u64,
     sent: &mut u64,
 ) -> Progress
-    ensures { λ r. ⌜ Searched (now (sheet .entry)) watch (now (came .entry)) (now (sent .entry)) r (now (came .exit)) (now (sent .exit)) × Rises (r .more) (now (came .entry)) (now (came .exit)) ⌝ }
+    ensures { λ r. ⌜
+        Searched (now (sheet .entry)) watch (now (came .entry)) (now (sent .entry)) r (now (came .exit)) (now (sent .exit))
+        × Rises (r .more) (now (came .entry)) (now (came .exit)) ⌝ }
 {
     let got = read_full(came, buffer);
     match got {
@@ -230,11 +234,13 @@ fn search_piece(
 
 // Searches the text, as long as more of it is to come. Each turn counts bytes that came: so it ends.
 fn search(sheet: &[u8], came: &mut u64, sent: &mut u64) -> Progress
-    ensures { λ r. ⌜ (r .more ≡ false) × Searched (now (sheet .entry)) opened (now (came .entry)) (now (sent .entry)) r (now (came .exit)) (now (sent .exit)) ⌝ }
+    ensures { λ r. ⌜
+        (r .more ≡ false)
+        × Searched (now (sheet .entry)) opened (now (came .entry)) (now (sent .entry)) r (now (came .exit)) (now (sent .exit)) ⌝ }
 {
-    let mut buffer = [0u8; 4096];
-    let mut places = [0u32; 4096];
-    let mut out = [0u8; 65611];
+    let mut buffer = [0u8; PIECE];
+    let mut places = [0u32; PIECE];
+    let mut out = [0u8; PRINTED];
     let mut scan = Progress {
         watch: Watch::open(),
         more: true,
@@ -253,7 +259,7 @@ fn print_refusal(sent: &mut u64, number: u32) -> bool
 {
     let mut out = [0u8; 32];
     let n = forms::put_refused(&mut out, 0, number);
-    system::print(sent, &out[..n])
+    system::send(sent, &out[..n])
 }
 
 // The program; whether it is complete.
@@ -261,7 +267,7 @@ fn run(came: &mut u64, sent: &mut u64) -> bool
     requires { ⌜ (now came ≡ 0) × (now sent ≡ 0) ⌝ }
     ensures { λ r. ⌜ Ran r (now (came .exit)) (now (sent .exit)) ⌝ }
 {
-    let mut kept = [0u8; 256];
+    let mut kept = [0u8; KEPT];
     let start = read_line(came, &mut kept);
     if !start.ok {
         return false;

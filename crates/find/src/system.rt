@@ -50,7 +50,7 @@ pub fn read_some(came: &mut u64, part: &mut [u8]) -> Got
 }
 
 // Writes bytes to standard output; whether that was possible.
-pub fn print(sent: &mut u64, bytes: &[u8]) -> bool
+pub fn send(sent: &mut u64, bytes: &[u8]) -> bool
     ensures { λ r. ⌜ Sent-or-told (now (sent .entry)) (now (bytes .entry)) r (now (sent .exit)) ⌝ }
 {
     if io::write_all(libc::STDOUT_FILENO, bytes) {

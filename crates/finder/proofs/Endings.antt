@@ -3,16 +3,16 @@ use mathlib.Core.Path.{_≡_, refl, sym, _∙_}
 use mathlib.Core.List.{List, []}
 use Prim.Native.Nat.{ℕ, zero, suc, _-_, _≤_, _<_}
 use native.Mathlib.Omega.{arith}
-use lib.ListN.{length}
+use lib.ListN.{length, drop}
+use Rattle.words.specs.Words.{in-front}
 use Rattle.words.proofs.Tests.{by-test}
 use Rattle.runs.specs.declared.Ending.the-variants.{PieceDone}
-use Rattle.runs.specs.Reading.{fed, ending, ending-refusal, ending-full}
+use Rattle.runs.specs.Reading.{Fed, fed, ending, ending-refusal, ending-full}
 use Rattle.runs.proofs.Feeds.{feed-end, takes-some, told-room, ending-none, ending-done, full-says, done-says}
-use Rattle.codes.specs.Sheet.{named, begins, in-front}
-use Rattle.codes.specs.Promise.{Begins-right}
-use Rattle.codes.proofs.Sheets.{begins-right}
+use Rattle.sheets.specs.Sheet.{sheet, named, begins}
+use Rattle.sheets.proofs.Sheets.{begins-accepted, begins-front, sheet-begins}
 use Rattle.finder.specs.declared.Watch.{Watch}
-use Rattle.finder.specs.Feed.{feeder, Fed, feed}
+use Rattle.finder.specs.Feed.{feeder, feed}
 use Rattle.finder.specs.Entry.{Lent, lent, feed-refusal, fed-call, call-by, feed-call}
 use Rattle.finder.specs.Promise.{Endings-told, Sheets-told, Feeding-goes-on}
 use Rattle.finder.proofs.Places.{reported-one}
@@ -27,7 +27,7 @@ unfolding call-by
 endings-by zero w x l =
     let cs : List ℕ = l .piece in
     let k : ℕ = length (l .list) in
-    let f : Fed = feed w cs k x in (
+    let f : Fed Watch ℕ = feed w cs k x in (
       ending-none 1 cs k f,
       λ e. let q = full-says 1 cs k f e in (omega (arith, q .0, told-room (feeder w) (reported-one w) cs k x), q .1),
       λ z. done-says (feeder w) cs k x,
@@ -40,12 +40,14 @@ endings-told bs x l = endings-by (feed-refusal bs x (length (l .piece)) (length 
 
 -- NUMBER 4
 pub sheets-told : Sheets-told
-unfolding Sheets-told Endings-told Begins-right
+unfolding Sheets-told Endings-told in-front
 sheets-told bs x l =
-    let r = endings-told bs x l .0 in
-    let b = begins-right bs in (
-      λ e u. never-4 bs x (length (l .piece)) (length (l .list)) (b .1 u) (sym r ∙ e),
-      λ f. by-test (begins bs) (λ t. absurd (f (b .0 t))) (λ t. r ∙ refuses-4 bs x (length (l .piece)) (length (l .list)) t),
+    let r = endings-told bs x l .0 in (
+      λ e w rest good is. never-4 bs x (length (l .piece)) (length (l .list)) (rw is (sheet-begins w rest good)) (sym r ∙ e),
+      λ f.
+          by-test (begins bs)
+          (λ b. absurd (f (named bs) (drop (length (sheet (named bs))) bs) (begins-accepted bs b) (begins-front bs b)))
+          (λ b. r ∙ refuses-4 bs x (length (l .piece)) (length (l .list)) b),
     )
 
 -- AN EMPTY PIECE

@@ -7,20 +7,21 @@ use native.Mathlib.Omega.{arith}
 use lib.Dec.{eqb·suc-zero}
 use lib.ListN.{length, take, drop, length-append}
 use lib.Seq.{take-append-seam}
-use Rattle.runs.specs.Reading.{ending-refusal}
+use Rattle.words.specs.Words.{in-front}
+use Rattle.runs.specs.Reading.{Fed, ending-refusal}
 use Rattle.runs.specs.Calls.{Outcome, run, Call, unless-refused, called}
 use Rattle.runs.proofs.Feeds.{ending-none}
 use Rattle.runs.proofs.Runs.{run-snoc}
 use Rattle.codes.specs.Refusals.{refused-if, first-refusal}
 use Rattle.codes.specs.Codes.{accepted}
-use Rattle.codes.specs.Sheet.{sheet, named, in-front}
-use Rattle.codes.specs.Promise.{Prepare-makes}
 use Rattle.codes.proofs.Refusals.{accepted-bounds}
-use Rattle.codes.proofs.Sheets.{sheet-named, sheet-begins}
-use Rattle.codes.proofs.Entries.{prepare-makes}
+use Rattle.sheets.specs.Sheet.{sheet, named}
+use Rattle.sheets.specs.Promise.{Prepare-makes}
+use Rattle.sheets.proofs.Sheets.{sheet-named, sheet-begins}
+use Rattle.sheets.proofs.Entries.{prepare-makes}
 use Rattle.finder.specs.declared.Watch.{Watch}
 use Rattle.finder.specs.declared.Feeding.{Feeding}
-use Rattle.finder.specs.Feed.{opened, Fed, feed}
+use Rattle.finder.specs.Feed.{opened, feed}
 use Rattle.finder.specs.Machine.{call-refusal, machine-call, machine-refusals}
 use Rattle.finder.specs.Texts.{places, watch-of}
 use Rattle.finder.specs.Entry.{Lent, Feed-call, feed-refusal, call-by, feed-call, Feed-says, feeding, feed-run, told-places, told-refusal, plain}
@@ -30,7 +31,7 @@ use Rattle.finder.proofs.Texts.{machine-of, opened-of, machine-start-of
 use Rattle.finder.proofs.Promises.{counted-of, Opened, run-opened, counted, watch-is, text-is, told-is, found-is, alike}
 
 -- ONE CALL of the entry point, by its refusal: it has answered and left what was fed
-pub record As-fed (n : ℕ) (f : Fed) (e : Feed-call) : Type 0 where
+pub record As-fed (n : ℕ) (f : Fed Watch ℕ) (e : Feed-call) : Type 0 where
   pub watch : e .answer .watch ≡ f .after
   pub taken : e .answer .taken ≡ f .taken
   pub told : take (e .answer .written) (e .left .list) ≡ f .told
@@ -40,7 +41,7 @@ pub record As-fed (n : ℕ) (f : Fed) (e : Feed-call) : Type 0 where
 as-fed : (n : ℕ) (w : List ℕ) (x : Watch) (l : Lent) → As-fed n (unless-refused n (feed w (l .piece) (length (l .list)) x) x) (call-by n w x l)
 unfolding unless-refused call-by in-front
 as-fed zero w x l =
-    let f : Fed = feed w (l .piece) (length (l .list)) x in
+    let f : Fed Watch ℕ = feed w (l .piece) (length (l .list)) x in
     let rest : List ℕ = drop (length (f .told)) (l .list) in
     record {
       watch = refl;

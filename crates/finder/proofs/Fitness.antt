@@ -41,7 +41,7 @@ module _ (m : ℕ) (x : Watch) where
       let cost = leb-true (x .compares) (2 * x .taken) (and-right (leb (x .hits) (x .taken)) (leb (x .compares) (2 * x .taken)) b) in
       record {
         state = leb-true (x .state) m (and-left (leb (x .state) m) (leb (x .state) (x .taken)) a);
-        read = leb-true (x .state) (x .taken) (and-right (leb (x .state) m) (leb (x .state) (x .taken)) a);
+        reached = leb-true (x .state) (x .taken) (and-right (leb (x .state) m) (leb (x .state) (x .taken)) a);
         hits = leb-true (x .hits) (x .taken) (and-left (leb (x .hits) (x .taken)) (leb (x .compares) (2 * x .taken)) b);
         text = h;
         cheap = omega arith;

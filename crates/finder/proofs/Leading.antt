@@ -1,48 +1,33 @@
 -- Bytes of a piece lead from state to state: none, one, one stretch after another, and those that are passed in state 0. Assumes nothing.
 use mathlib.Core.Path.{_≡_, refl, sym, _∙_}
 use mathlib.Core.Logic.{_≢_}
-use mathlib.Core.List.{List, [], _∷_}
+use mathlib.Core.List.{List, []}
 use Prim.Native.Nat.{ℕ, zero, suc, _+_, _-_, _≤_, _<_}
-use native.Mathlib.Nat.{min-le-left, add-zero, sub-zero}
+use native.Mathlib.Nat.{add-zero, sub-zero}
 use native.Mathlib.Numerals.{add-one}
 use native.Mathlib.Omega.{arith}
-use borrow.Author.Tests.{eq-eqb, ne-eqb}
-use lib.Dec.{eqb}
 use lib.ListN.{length, getD, drop, drop-of-length-le}
 use lib.Seq.{drop-cons}
 use Rattle.words.specs.Words.{byte}
 use Rattle.words.proofs.Lists.{every-at}
 use Rattle.runs.specs.Reading.{fed-more}
-use Rattle.runs.proofs.Places.{place-some, place-none}
 use Rattle.runs.proofs.Feeds.{more-none, more-more, feed-end, feed-on}
 use Rattle.automaton.specs.declared.Step.{Step}
 use Rattle.automaton.specs.Arrows.{stepped}
-use Rattle.automaton.specs.Ceilings.{log2, different, byte-ceiling}
 use Rattle.automaton.specs.Promise.{Steps-at-zero, Byte-below}
 use Rattle.automaton.proofs.Steps.{step-bounds, steps-at-zero}
-use Rattle.automaton.proofs.Logarithm.{log2-bound}
-use Rattle.automaton.proofs.ByteCeiling.{byte-below}
+use Rattle.automaton.proofs.ByteCeiling.{byte-below, ceiling-length}
 use Rattle.codes.specs.Codes.{longest-code}
 use Rattle.finder.specs.declared.Watch.{Watch}
 use Rattle.finder.specs.Feed.{completed, reported, with-byte, feeder, feed}
 use Rattle.finder.specs.Promise.{Bytes-passed}
 use Rattle.finder.specs.Inside.{led, Leads}
+use Rattle.finder.proofs.Places.{completed-none}
 
--- PLACES
-module _ (m q n : ℕ) where
-  pub completed-one : q ≡ m → completed m q n ≡ (n - m) ∷ []
-  unfolding completed
-  completed-one e = place-some (eqb q m) (n - m) (eq-eqb q m e)
-
-  pub completed-none : q ≢ m → completed m q n ≡ []
-  unfolding completed
-  completed-none d = place-none (eqb q m) (n - m) (ne-eqb q m d)
-
--- a byte costs at most 256 comparisons
-pub step-cheap : (w : List ℕ) (p c : ℕ) → p ≤ length w → length w ≤ longest-code → stepped w p c .cost ≤ 256
-unfolding Byte-below byte-ceiling
-step-cheap w p c fits few =
-    omega (arith, byte-below w p c fits, min-le-left (1 + log2 (length w)) (different w), log2-bound (length w))
+-- a byte costs no more comparisons than the longest code has bytes
+pub step-cheap : (w : List ℕ) (p c : ℕ) → p ≤ length w → length w ≤ longest-code → stepped w p c .cost ≤ longest-code
+unfolding Byte-below
+step-cheap w p c fits few = omega (arith, byte-below w p c fits, ceiling-length w)
 
 -- one stretch after another, as the watch has it
 led-led : (x : Watch) (q n c r k h d : ℕ) → led (led x q n 0 c) r k h d ≡ led x r (n + k) h (c + d)
@@ -60,7 +45,7 @@ module _ (w piece : List ℕ) (before : ℕ) where
         on = omega arith;
         within = h;
         state = a;
-        read = b;
+        reached = b;
         cheap = omega arith;
         feeds = λ x e f k.
             let z : i - i ≡ 0 = omega arith in
@@ -68,7 +53,7 @@ module _ (w piece : List ℕ) (before : ℕ) where
       }
 
   -- ONE BYTE is one step
-  pub leads-byte : (p i : ℕ) → p ≤ length w → p ≤ before + i → i < length piece → (s : Step) → s ≡ stepped w p (getD piece i 0) → s .cost ≤ 256 →
+  pub leads-byte : (p i : ℕ) → p ≤ length w → p ≤ before + i → i < length piece → (s : Step) → s ≡ stepped w p (getD piece i 0) → s .cost ≤ longest-code →
       Leads w piece before p i (s .state) (s .cost) (i + 1) (completed (length w) (s .state) (before + (i + 1)))
   unfolding reported with-byte
   leads-byte p i a b h s e cheap =
@@ -78,7 +63,7 @@ module _ (w piece : List ℕ) (before : ℕ) where
         on = omega arith;
         within = omega arith;
         state = bounds .0;
-        read = omega (arith, bounds .1);
+        reached = omega (arith, bounds .1);
         cheap = omega arith;
         feeds = λ x q t k. rw one (fed-byte x q t k);
       }
@@ -108,7 +93,7 @@ module _ (w piece : List ℕ) (before : ℕ) where
         on = omega (arith, b .on);
         within = b .within;
         state = b .state;
-        read = b .read;
+        reached = b .reached;
         cheap = omega (arith, a .cheap, b .cheap, b .on);
         feeds = λ x e f k.
             let y : Watch = led x q (j - i) 0 c in

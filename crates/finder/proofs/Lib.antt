@@ -5,9 +5,11 @@ pub mod Fitness
 pub mod Refusing
 pub mod Endings
 pub mod Entries
-pub mod Reading
+pub mod Comparing
 pub mod Skipping
 pub mod Leading
 pub mod Turns
+pub mod Walking
+pub mod Starting
 pub mod Taking
 pub mod CallSamples

@@ -1,20 +1,22 @@
--- The places of a text are where the code stands. Assumes nothing.
+-- The places of a text are where the code stands; what a state completes, and a byte reports. Assumes nothing.
 use mathlib.Core.Path.{_≡_, sym, ap, _∙_}
 use mathlib.Core.Bool.{true}
-use mathlib.Core.List.{List, []}
-use mathlib.Core.Logic.{_↔_}
+use mathlib.Core.List.{List, [], _∷_}
+use mathlib.Core.Logic.{_≢_, _↔_}
 use Prim.Native.Nat.{ℕ, suc, _+_, _-_, _≤_}
 use native.Mathlib.Omega.{arith}
+use borrow.Author.Tests.{eq-eqb, ne-eqb}
 use lib.Dec.{eqb}
 use lib.ListN.{length, take, drop, length-take, length-drop}
 use lib.Seq.{take-length, length-take-le}
 use Rattle.words.specs.Words.{member, Rising, ends-with}
-use Rattle.words.proofs.Lists.{take-drop}
+use Rattle.words.proofs.Lists.{suffix-take}
 use Rattle.words.proofs.Ends.{ends-is, ends-test}
+use Rattle.runs.proofs.Feeds.{takes-whole}
 use Rattle.runs.proofs.Places as found
 use Rattle.automaton.specs.Arrows.{stepped}
 use Rattle.finder.specs.declared.Watch.{Watch}
-use Rattle.finder.specs.Feed.{completed, reported}
+use Rattle.finder.specs.Feed.{completed, reported, feeder, feed}
 use Rattle.finder.specs.Machine.{found-after}
 use Rattle.finder.specs.Texts.{places}
 
@@ -22,20 +24,15 @@ module _ (w ts : List ℕ) where
   end-stands : (i : ℕ) → i + length w ≤ length ts →
       ends-with (take (i + length w) ts) w (length w) ≡ true → take (length w) (drop i ts) ≡ w
   end-stands i fits t =
-      let us : List ℕ = take (i + length w) ts in
-      let at : i ≡ length us - length w = omega (arith, length-take-le (i + length w) ts fits) in
-      take-drop i (length w) ts (omega arith) ∙ ap (λ (n : ℕ). drop n us) at ∙ ends-is us w (length w) t .same ∙ take-length w
+      sym (suffix-take i (length w) ts fits) ∙ ends-is (take (i + length w) ts) w (length w) t .same ∙ take-length w
 
   stands-end : (i : ℕ) → i + length w ≤ length ts →
       take (length w) (drop i ts) ≡ w → ends-with (take (i + length w) ts) w (length w) ≡ true
   stands-end i fits s =
-      let us : List ℕ = take (i + length w) ts in
-      let size : length us ≡ i + length w = length-take-le (i + length w) ts fits in
-      let at : length us - length w ≡ i = omega arith in
-      ends-test us w (length w)
+      ends-test (take (i + length w) ts) w (length w)
       (record {
-        fits = omega arith;
-        same = ap (λ (n : ℕ). drop n us) at ∙ sym (take-drop i (length w) ts (omega arith)) ∙ s ∙ sym (take-length w);
+        fits = omega (arith, length-take-le (i + length w) ts fits);
+        same = suffix-take i (length w) ts fits ∙ s ∙ sym (take-length w);
       })
 
   stands-fits : (i : ℕ) → 1 ≤ length w → take (length w) (drop i ts) ≡ w → i + length w ≤ length ts
@@ -57,7 +54,21 @@ pub few-places : (w ts : List ℕ) → length (places w ts) ≤ length ts
 unfolding found-after
 few-places w ts = found.found-few (length w) (λ us. ends-with us w (length w)) [] ts
 
+-- A STATE completes a place, or none
+module _ (m q n : ℕ) where
+  pub completed-one : q ≡ m → completed m q n ≡ (n - m) ∷ []
+  unfolding completed
+  completed-one e = found.place-some (eqb q m) (n - m) (eq-eqb q m e)
+
+  pub completed-none : q ≢ m → completed m q n ≡ []
+  unfolding completed
+  completed-none d = found.place-none (eqb q m) (n - m) (ne-eqb q m d)
+
 -- a byte reports none or one
 pub reported-one : (w : List ℕ) (c : ℕ) (x : Watch) → length (reported w c x) ≤ 1
 unfolding reported completed
 reported-one w c x = found.place-one (eqb (stepped w (x .state) c .state) (length w)) (suc (x .taken) - length w)
+
+-- so a list with a place for each byte takes the whole piece
+pub feed-whole : (w cs : List ℕ) (k : ℕ) (x : Watch) → length cs ≤ k → feed w cs k x .taken ≡ length cs
+feed-whole w cs k x h = takes-whole (feeder w) (reported-one w) cs k x (omega arith)

@@ -1,68 +1,40 @@
 -- The promises about runs: the watch and the machine after any run are those of the bytes taken. Assumes nothing.
 use mathlib.Core.Path.{_≡_, refl, sym, ap, _∙_}
 use mathlib.Core.List.{List, [], _∷_, _++_, append-nil, append-assoc, map, map-id}
-use Prim.Native.Nat.{ℕ, _+_, _*_, _≤_}
+use Prim.Native.Nat.{ℕ, _*_, _≤_}
 use lib.ListN.{length}
-use lib.Seq.{append-snoc}
 use borrow.Author.Tests.{le-leb}
-use Rattle.words.specs.Words.{Every, state-of}
-use Rattle.words.proofs.Lists.{length-snoc}
-use Rattle.words.proofs.Largest.{state-is}
-use Rattle.runs.specs.Reading.{over}
+use Rattle.words.proofs.Largest.{state-is, state-read}
 use Rattle.runs.specs.Calls.{Outcome, run, Call}
 use Rattle.runs.proofs.Texts.{run-right}
-use Rattle.automaton.specs.Ceilings.{byte-ceiling}
-use Rattle.automaton.specs.Promise.{Byte-below}
-use Rattle.automaton.proofs.PaperArrows.{step-state}
-use Rattle.automaton.proofs.TotalCeiling.{Running, running-start, running-byte, running-below, running-twice}
-use Rattle.automaton.proofs.ByteCeiling.{byte-below}
+use Rattle.automaton.specs.Costs.{costs, sum}
+use Rattle.automaton.specs.Promise.{Costs-below}
+use Rattle.automaton.proofs.Costs.{costs-below, costs-twice}
 use Rattle.finder.specs.declared.Watch.{Watch}
 use Rattle.finder.specs.Feed.{opened}
-use Rattle.finder.specs.Machine.{Machine, cost-after, found-after, machine-call, machine-after}
-use Rattle.finder.specs.Texts.{places, costs, sum, watch-of}
+use Rattle.finder.specs.Machine.{Machine, found-after, machine-call, machine-after}
+use Rattle.finder.specs.Texts.{places, watch-of}
 use Rattle.finder.specs.Promise.{Counted, machine-run, Runs-count, Text-taken, Alike-count, Places-told, Places-right, Places-stand}
 use Rattle.finder.proofs.Fitness.{fit-compares}
 use Rattle.finder.proofs.Places.{few-places, places-stand-in}
-use Rattle.finder.proofs.Texts.{machine-of, state-nil, opened-of, machine-start-of, costs-snoc, Watch-reads, plain-call, call-read, machine-call-read}
-
--- THE COSTS OF A TEXT keep to both ceilings
-costs-below : (w bs ts : List ℕ) → Every (λ k. k ≤ byte-ceiling w) (over (λ us c. cost-after w us c ∷ []) bs ts)
-unfolding over cost-after Byte-below
-costs-below w bs [] = tt
-costs-below w bs (c ∷ ts) = (byte-below w (state-of w bs) c (state-is w bs .bound), costs-below w (bs ++ (c ∷ [])) ts)
-
-module _ (w : List ℕ) (some : 1 ≤ length w) where
-  abbrev Kept : (text : List ℕ) → Type 0
-  Kept ts = Running w (length ts) (state-of w ts) (sum (costs w ts))
-
-  kept-more : (bs ts : List ℕ) → Kept bs → Kept (bs ++ ts)
-  unfolding cost-after
-  kept-more bs [] r = rw append-nil r
-  kept-more bs (c ∷ ts) r =
-      rw append-snoc at
-      (kept-more (bs ++ (c ∷ [])) ts
-      (rw (length-snoc, ← step-state, costs-snoc) (running-byte w (length bs) (state-of w bs) (sum (costs w bs)) c some r)))
-
-  kept : (ts : List ℕ) → Kept ts
-  unfolding over sum
-  kept ts = kept-more [] ts (rw (state-nil w) (running-start w))
+use Rattle.finder.proofs.Texts.{machine-of, opened-of, machine-start-of, Watch-reads, plain-call, call-read, machine-call-read}
 
 -- THE WATCH AND THE MACHINE OF A TEXT have all that the third demand asks
 pub counted-of : (w ts : List ℕ) → 1 ≤ length w → Counted w (watch-of w ts) (machine-of w ts)
+unfolding Costs-below
 counted-of w ts some =
-    let n : ℕ = sum (costs w ts) in
-    let r = kept w some ts in
+    let c = costs-below w ts some in
     record {
       bytes = refl;
       state = refl;
       hits = refl;
       compares = refl;
       adds = refl;
-      each-below = costs-below w [] ts;
-      total-below = running-below w (length ts) (state-of w ts) n some r;
+      each-below = c .0;
+      total-below = c .1;
       fits =
-          sym (fit-compares (length w) (watch-of w ts) (r .state) (r .reached) (few-places w ts))
-          ∙ le-leb n (2 * length ts) (running-twice w (length ts) (state-of w ts) n some r);
+          sym (fit-compares (length w) (watch-of w ts) (state-is w ts .bound) (state-read w ts) (few-places w ts))
+          ∙ le-leb (sum (costs w ts)) (2 * length ts) (costs-twice w some ts);
     }
 
 -- A RUN from an opening on, of any entry point, and the plain machine beside it: both have come to the bytes taken

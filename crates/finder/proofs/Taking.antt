@@ -1,36 +1,39 @@
 -- The loop over a piece: the bytes taken and the places written so far come before what is fed of the rest. Assumes nothing.
 use mathlib.Core.Path.{_≡_, refl, sym, _∙_}
+use mathlib.Core.Bool.{true}
 use mathlib.Core.List.{List, _++_, append-nil}
 use Prim.Native.Nat.{ℕ, suc, _+_, _*_, _-_, _^_, _≤_, _<_}
 use native.Mathlib.Nat.{add-zero}
 use native.Mathlib.Omega.{arith}
 use lib.ListN.{length, take, set}
+use Rattle.words.specs.Words.{in-front}
 use Rattle.runs.specs.declared.Ending.{Ending}
 use Rattle.runs.specs.declared.Ending.the-variants.{PieceDone, ListFull}
 use Rattle.runs.specs.Reading.{longest-text, fed, ending}
 use Rattle.runs.proofs.Feeds.{Taking, taking-start, taking-more, taking-done, taking-full, ending-list, ending-done}
 use Rattle.runs.proofs.Fronts.{Front, front-none, front-next, front-length, front-take, front-all}
-use Rattle.codes.specs.Sheet.{named, in-front}
+use Rattle.codes.specs.Codes.{longest-code}
+use Rattle.sheets.specs.Sheet.{named, begins}
 use Rattle.finder.specs.declared.Watch.{Watch}
 use Rattle.finder.specs.declared.Found.the-variants.{At, Nothing}
 use Rattle.finder.specs.declared.Turn.{Turn}
 use Rattle.finder.specs.Feed.{feeder, feed}
 use Rattle.finder.specs.Entry.{lent}
-use Rattle.finder.specs.Inside.{On-sheet, Ready, found-list, led, Turning, Turned, Took}
+use Rattle.finder.specs.Inside.{Ready, found-list, led, Turning, Turned, Took}
 
 -- i bytes are taken from watch x on, which led to state q at a cost, and k places are written to a list that was ps₀
 pub record Loop (bs : List ℕ) (x : Watch) (piece ps₀ : List ℕ) (m q c i k : ℕ) (ps : List ℕ) : Type 0 where
-  pub on : On-sheet bs
+  pub on : begins bs ≡ true
   pub m-is : m ≡ length (named bs)
   pub ready : Ready m x (length piece)
   pub state : q ≤ m
-  pub read : q ≤ x .taken + i
-  pub cheap : c ≤ 256 * i
+  pub reached : q ≤ x .taken + i
+  pub cheap : c ≤ longest-code * i
   pub fewer : k ≤ i
   pub front : Front ps₀ ps k
   pub taking : Taking (feeder (named bs)) x piece (length ps₀) (led x q i k c) i (take k ps)
 
-pub loop-start : {bs : List ℕ} {x : Watch} {piece ps : List ℕ} (m : ℕ) → On-sheet bs → Ready (length (named bs)) x (length piece) →
+pub loop-start : {bs : List ℕ} {x : Watch} {piece ps : List ℕ} (m : ℕ) → begins bs ≡ true → Ready (length (named bs)) x (length piece) →
     m ≡ length (named bs) → Loop bs x piece ps m (x .state) 0 0 0 ps
 loop-start {bs} {x} {piece} {ps} m o r e =
     record {
@@ -38,7 +41,7 @@ loop-start {bs} {x} {piece} {ps} m o r e =
       m-is = e;
       ready = rw e r;
       state = omega (arith, r .state);
-      read = omega (arith, r .read);
+      reached = omega (arith, r .reached);
       cheap = omega arith;
       fewer = omega arith;
       front = front-none ps;
@@ -50,7 +53,8 @@ module _ {bs : List ℕ} {x : Watch} {piece ps₀ : List ℕ} {m q c i k : ℕ} 
   size = front-length (t .front)
 
   -- what the casts and sums need
-  pub loop-bounds : (i ≤ length piece) × (x .taken + i ≤ longest-text) × (k ≤ i) × (x .hits ≤ x .taken) × (x .compares + c < 2 ^ 63) × (c ≤ 256 * i)
+  pub loop-bounds :
+      (i ≤ length piece) × (x .taken + i ≤ longest-text) × (k ≤ i) × (x .hits ≤ x .taken) × (x .compares + c < 2 ^ 63) × (c ≤ longest-code * i)
   loop-bounds =
       let within : i ≤ length piece = t .taking .within in (
         within,
@@ -62,32 +66,35 @@ module _ {bs : List ℕ} {x : Watch} {piece ps₀ : List ℕ} {m q c i k : ℕ} 
       )
 
   -- THE END: with the piece, or with the list
-  answer : (e : Ending) → feed (named bs) piece (length ps₀) x ≡ fed (led x q i k c) i (take k ps) →
+  took : (e : Ending) → feed (named bs) piece (length ps₀) x ≡ fed (led x q i k c) i (take k ps) →
       e ≡ ending 1 piece (length ps₀) (fed (led x q i k c) i (take k ps)) →
       Took (named bs) x (lent piece ps₀) (record { watch = led x q i k c; taken = i; written = k; ending = e }) (lent piece ps)
   unfolding in-front
-  answer e f g =
+  took e f g =
       record {
         is =
             rw f
             (λ j.
-            record { answer = record { watch = led x q i k c; taken = i; written = sym size j; ending = g j }; left = lent piece (front-all (t .front) j) });
+            record {
+              answer = record { watch = led x q i k c; taken = i; written = sym size j; ending = g j };
+              left = lent piece (front-all (t .front) j);
+            });
       }
 
   pub answer-done : (e : Ending) → e ≡ PieceDone → length piece ≤ i →
       Took (named bs) x (lent piece ps₀) (record { watch = led x q i k c; taken = i; written = k; ending = e }) (lent piece ps)
   answer-done e d h =
-      answer e (taking-done (t .taking) h) (d ∙ sym (ending-done 1 piece (length ps₀) (fed (led x q i k c) i (take k ps)) h))
+      took e (taking-done (t .taking) h) (d ∙ sym (ending-done 1 piece (length ps₀) (fed (led x q i k c) i (take k ps)) h))
 
   pub answer-full : (e : Ending) → e ≡ ListFull → i < length piece → length ps ≤ k →
       Took (named bs) x (lent piece ps₀) (record { watch = led x q i k c; taken = i; written = k; ending = e }) (lent piece ps)
   answer-full e d l h =
       let none : length ps₀ - length (take k ps) < 1 = omega (arith, size, t .front .size) in
-      answer e (taking-full (t .taking) none) (d ∙ sym (ending-list 1 piece (length ps₀) (fed (led x q i k c) i (take k ps)) none l))
+      took e (taking-full (t .taking) none) (d ∙ sym (ending-list 1 piece (length ps₀) (fed (led x q i k c) i (take k ps)) none l))
 
   -- A TURN
   pub turning : i < length piece → Turning bs m (x .taken) q piece i
-  turning h = record { on = t .on; m-is = t .m-is; inside = h; state = t .state; read = t .read; text = t .ready .text }
+  turning h = record { on = t .on; m-is = t .m-is; inside = h; state = t .state; reached = t .reached; text = t .ready .text }
 
   module _ (r : k < length ps) (u : Turn) (v : Turned (named bs) piece (x .taken) q i u) where
     turn : (n : ℕ) (qs : List ℕ) → n ≡ k + length (found-list (u .found)) → n ≤ k + 1 → Front ps₀ qs n → take k ps ++ found-list (u .found) ≡ take n qs →
@@ -105,7 +112,7 @@ module _ {bs : List ℕ} {x : Watch} {piece ps₀ : List ℕ} {m q c i k : ℕ} 
           m-is = t .m-is;
           ready = t .ready;
           state = omega (arith, v .leads .state, t .m-is);
-          read = v .leads .read;
+          reached = v .leads .reached;
           cheap = omega (arith, t .cheap, v .leads .cheap);
           fewer = omega (arith, t .fewer);
           front = f;

@@ -2,35 +2,30 @@
 use mathlib.Core.Path.{_≡_, refl, ap, _∙_}
 use mathlib.Core.Bool.{Bool, true, false, cond}
 use mathlib.Core.List.{List, [], _∷_, _++_, append-nil}
-use Prim.Native.Nat.{ℕ, zero, suc, _+_, _-_}
+use Prim.Native.Nat.{ℕ, zero, suc, _+_, _-_, _≤_}
 use native.Mathlib.Omega.{arith}
 use lib.Dec.{eqb}
 use lib.ListN.{length, take, length-append}
-use lib.Seq.{append-snoc}
-use Rattle.words.specs.Words.{state-of}
+use lib.Seq.{append-snoc, take-all}
 use Rattle.words.proofs.Lists.{length-snoc}
-use Rattle.words.proofs.Largest.{state-read, state-whole}
+use Rattle.words.proofs.Largest.{state-nil, state-whole}
 use Rattle.runs.specs.Reading.{over, fed, fed-more}
 use Rattle.runs.specs.Calls.{Outcome, Call, unless-refused, called}
 use Rattle.runs.proofs.Over.{over-snoc}
 use Rattle.runs.proofs.Feeds.{feed-end, feed-stop, feed-on}
 use Rattle.runs.proofs.Texts.{Reads, feed-right, called-right}
-use Rattle.automaton.proofs.PaperArrows.{step-state}
+use Rattle.automaton.specs.Costs.{cost-after, costs, sum}
+use Rattle.automaton.specs.Promise.{State-next}
+use Rattle.automaton.proofs.PaperArrows.{state-next}
+use Rattle.automaton.proofs.Costs.{costs-snoc}
 use Rattle.finder.specs.declared.Watch.{Watch}
 use Rattle.finder.specs.Feed.{opened, completed, reported, with-byte, feeder, feed}
-use Rattle.finder.specs.Machine.{Machine, machine, machine-start, cost-after, found-after, machine-byte, machine-piece, call-refusal, machine-call}
-use Rattle.finder.specs.Texts.{places, costs, sum, watch-of}
+use Rattle.finder.specs.Machine.{Machine, machine, machine-start, found-after, machine-byte, machine-piece, call-refusal, machine-call}
+use Rattle.finder.specs.Texts.{places, watch-of}
+use Rattle.finder.proofs.Places.{feed-whole}
 
 abbrev pub machine-of : (w text : List ℕ) → Machine
 machine-of w ts = machine ts (sum (costs w ts)) (places w ts)
-
-sum-snoc : (ns : List ℕ) (n : ℕ) → sum (ns ++ (n ∷ [])) ≡ sum ns + n
-unfolding sum
-sum-snoc [] n = omega arith
-sum-snoc (k ∷ ns) n = rw (sum-snoc ns n) (omega arith)
-
-pub state-nil : (w : List ℕ) → state-of w [] ≡ 0
-state-nil w = omega (arith, state-read w [])
 
 -- THE EMPTY TEXT
 pub opened-of : (w : List ℕ) → opened ≡ watch-of w []
@@ -46,16 +41,13 @@ module _ (w ts : List ℕ) (c : ℕ) where
   places-snoc : places w (ts ++ (c ∷ [])) ≡ places w ts ++ found-after w ts c
   places-snoc = over-snoc (found-after w) ts c
 
-  pub costs-snoc : sum (costs w (ts ++ (c ∷ []))) ≡ sum (costs w ts) + cost-after w ts c
-  costs-snoc = ap sum (over-snoc (λ us b. cost-after w us b ∷ []) ts c) ∙ sum-snoc (costs w ts) (cost-after w ts c)
-
   tells : reported w c (watch-of w ts) ≡ found-after w ts c
-  unfolding reported completed found-after
-  tells = rw (step-state, state-whole)
+  unfolding reported completed found-after State-next
+  tells = rw (state-next, state-whole)
 
   follows : with-byte w c (watch-of w ts) ≡ watch-of w (ts ++ (c ∷ []))
-  unfolding with-byte cost-after
-  follows = rw (tells, step-state, length-snoc, places-snoc, costs-snoc, length-append) refl
+  unfolding with-byte cost-after State-next
+  follows = rw (tells, state-next, length-snoc, places-snoc, costs-snoc, length-append) refl
 
   machine-follows : machine-byte w c (machine-of w ts) ≡ machine-of w (ts ++ (c ∷ []))
   unfolding machine-byte
@@ -69,6 +61,13 @@ module _ (w : List ℕ) where
   -- A PIECE: both take the same bytes
   pub piece-reads : (cs : List ℕ) (k : ℕ) (ts : List ℕ) → let f = feed w cs k (watch-of w ts) in Watch-reads ts (take (f .taken) cs) (f .after) (f .told)
   piece-reads = feed-right (watch-of w) (found-after w) (feeder w) (follows w) (tells w)
+
+  -- with a list that has a place for each byte, the whole piece
+  pub whole-read : (cs : List ℕ) (k : ℕ) (ts : List ℕ) → length cs ≤ k →
+      let f = feed w cs k (watch-of w ts) in Watch-reads ts cs (f .after) (f .told)
+  whole-read cs k ts h =
+      let all = take-all (feed w cs k (watch-of w ts) .taken) cs (omega (arith, feed-whole w cs k (watch-of w ts) h)) in
+      rw all at (piece-reads cs k ts)
 
   machine-read : (cs : List ℕ) (k : ℕ) (ts : List ℕ) →
       machine-piece w cs k (machine-of w ts) ≡ machine-of w (ts ++ take (feed w cs k (watch-of w ts) .taken) cs)

@@ -6,13 +6,14 @@ use Prim.Native.Nat.{ℕ, zero, suc, _+_}
 use lib.Dec.{ltb, eqb}
 use lib.ListN.{length, take}
 use Rattle.runs.specs.declared.Ending.the-variants.{Refused}
-use Rattle.runs.specs.Reading.{longest-text, ending, ending-refusal}
+use Rattle.words.specs.Words.{in-front}
+use Rattle.runs.specs.Reading.{longest-text, Fed, ending, ending-refusal}
 use Rattle.runs.specs.Calls.{Outcome, run, Call}
 use Rattle.codes.specs.Refusals.{refused-if, first-refusal}
-use Rattle.codes.specs.Sheet.{named, begins, in-front}
+use Rattle.sheets.specs.Sheet.{named, begins}
 use Rattle.finder.specs.declared.Watch.{Watch}
 use Rattle.finder.specs.declared.Feeding.{Feeding}
-use Rattle.finder.specs.Feed.{opened, fit, spots, Fed, feed}
+use Rattle.finder.specs.Feed.{opened, fit, spots, feed}
 
 -- WHAT A CALL IS LENT: a piece of text, and a list for its places
 pub record Lent : Type 0 where
@@ -38,7 +39,7 @@ feed-refusal bs x l k =
     ∷ [])
 
 -- a call that is not refused: what was fed; the places are in front of the list, and the rest of it is as it was
-abbrev pub fed-call : Fed → Lent → Feed-call
+abbrev pub fed-call : Fed Watch ℕ → Lent → Feed-call
 fed-call f l =
     record {
       answer = record { watch = f .after; taken = f .taken; written = length (f .told); ending = ending spots (l .piece) (length (l .list)) f };

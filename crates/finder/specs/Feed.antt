@@ -5,7 +5,7 @@ use Prim.Native.Nat.{ℕ, suc, _+_, _*_, _-_}
 use lib.Dec.{leb, eqb}
 use lib.ListN.{length}
 use Rattle.automaton.specs.Arrows.{stepped}
-use Rattle.runs.specs.Reading.{place-if, Reader}
+use Rattle.runs.specs.Reading.{place-if, Reader, Fed}
 use Rattle.runs.specs.Reading as reading
 use Rattle.finder.specs.declared.Watch.{Watch}
 
@@ -43,8 +43,5 @@ spots = 1
 abbrev pub feeder : (w : List ℕ) → Reader Watch ℕ
 feeder w = record { byte = with-byte w; tells = reported w; needs = spots }
 
-abbrev pub Fed : Type 0
-Fed = reading.Fed Watch ℕ
-
-abbrev pub feed : (w piece : List ℕ) → (room : ℕ) → Watch → Fed
+abbrev pub feed : (w piece : List ℕ) → (room : ℕ) → Watch → Fed Watch ℕ
 feed w cs k x = reading.feed (feeder w) cs k x

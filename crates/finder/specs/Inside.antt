@@ -1,12 +1,14 @@
 -- What the private functions of this crate need and promise. Assumes nothing: these are definitions.
 use mathlib.Core.Path.{_≡_}
+use mathlib.Core.Bool.{true}
 use mathlib.Core.List.{List, [], _∷_}
 use mathlib.Core.Logic.{_≢_}
 use Prim.Native.Nat.{ℕ, suc, _+_, _*_, _-_, _^_, _≤_, _<_}
 use lib.ListN.{length, getD, drop}
 use Rattle.runs.specs.Reading.{longest-text, fed-more}
+use Rattle.automaton.specs.Arrows.{all-targets}
 use Rattle.codes.specs.Codes.{longest-code}
-use Rattle.codes.specs.Sheet.{sheet, named, in-front}
+use Rattle.sheets.specs.Sheet.{target-place, named, begins}
 use Rattle.finder.specs.declared.Watch.{Watch}
 use Rattle.finder.specs.declared.Found.{Found}
 use Rattle.finder.specs.declared.Found.the-variants.{At, Nothing}
@@ -15,19 +17,17 @@ use Rattle.finder.specs.declared.Feeding.{Feeding}
 use Rattle.finder.specs.Feed.{completed, feed}
 use Rattle.finder.specs.Entry.{Lent, fed-call}
 
--- the buffer begins with the sheet of the code that it names, which is accepted
-pub record On-sheet (bs : List ℕ) : Type 0 where
-  pub front : bs ≡ in-front (sheet (named bs)) bs
-  pub some : 1 ≤ length (named bs)
-  pub few : length (named bs) ≤ longest-code
+-- t is the target at a place of the sheet: number i of the code's where that is the place of number i
+abbrev pub Target-at : (w : List ℕ) → (at t : ℕ) → Type 0
+Target-at w at t = (i : ℕ) → at ≡ target-place (length w) i → t ≡ getD (all-targets w) i 0
 
--- a watch with which n bytes more can be taken, for a code of m bytes: a byte costs at most 256
+-- a watch with which n bytes more can be taken, for a code of m bytes: no byte costs more than the longest code has bytes
 pub record Ready (m : ℕ) (x : Watch) (n : ℕ) : Type 0 where
   pub state : x .state ≤ m
-  pub read : x .state ≤ x .taken
+  pub reached : x .state ≤ x .taken
   pub hits : x .hits ≤ x .taken
   pub text : x .taken + n ≤ longest-text
-  pub cheap : x .compares + 256 * n < 2 ^ 63
+  pub cheap : x .compares + longest-code * n < 2 ^ 63
 
 -- what a turn has found, a list of none or one
 abbrev pub found-list : Found → List ℕ
@@ -47,11 +47,11 @@ pub record Skipped (piece : List ℕ) (from byte at : ℕ) : Type 0 where
 
 -- THE LOOP OVER A PIECE, which has so many bytes of text before it, with the sheet of a code of m bytes. A turn can start at place i in state p
 pub record Turning (bs : List ℕ) (m before p : ℕ) (piece : List ℕ) (i : ℕ) : Type 0 where
-  pub on : On-sheet bs
+  pub on : begins bs ≡ true
   pub m-is : m ≡ length (named bs)
   pub inside : i < length piece
   pub state : p ≤ m
-  pub read : p ≤ before + i
+  pub reached : p ≤ before + i
   pub text : before + length piece ≤ longest-text
 
 -- the bytes from place i to place j lead from state p to state q at a cost, and complete these places: whatever else the watch holds, feeding goes on so
@@ -60,8 +60,8 @@ pub record Leads (w piece : List ℕ) (before p i q cost j : ℕ) (told : List �
   pub on : i ≤ j
   pub within : j ≤ length piece
   pub state : q ≤ length w
-  pub read : q ≤ before + j
-  pub cheap : cost ≤ 256 * (j - i)
+  pub reached : q ≤ before + j
+  pub cheap : cost ≤ longest-code * (j - i)
   pub feeds :
       (x : Watch) → x .state ≡ p → x .taken ≡ before + i → (k : ℕ) →
       feed w (drop i piece) (suc k) x

@@ -1,15 +1,15 @@
 -- THE PLAIN MACHINE of document 01: a text, a total and the places found. It never sees a watch: it is the independent paper that the watch is held against.
--- With feeding it shares the automaton's step, none or one place (`place-if`), what a call is lent, and how refusals are listed. Assumes nothing: these are
+-- With feeding it shares the step's cost, none or one place (`place-if`), what a call is lent, and how refusals are listed. Assumes nothing: these are
 -- definitions.
 use mathlib.Core.Bool.{cond}
 use mathlib.Core.List.{List, [], _∷_, _++_}
 use Prim.Native.Nat.{ℕ, zero, suc, _+_, _-_}
 use lib.Dec.{ltb, eqb}
 use lib.ListN.{length}
-use Rattle.words.specs.Words.{ends-with, state-of}
+use Rattle.words.specs.Words.{ends-with}
 use Rattle.runs.specs.Reading.{longest-text, place-if}
 use Rattle.runs.specs.Calls.{Call}
-use Rattle.automaton.specs.Arrows.{stepped}
+use Rattle.automaton.specs.Costs.{cost-after}
 use Rattle.codes.specs.Refusals.{refused-if, first-refusal}
 
 pub record Machine : Type 0 where
@@ -23,14 +23,11 @@ machine ts n ps = record { text = ts; total = n; found = ps }
 abbrev pub machine-start : Machine
 machine-start = machine [] 0 []
 
--- byte c after a text: its cost, that of the step from the state that belongs to the text, and the place that is found, where text and byte end with the code
-unfoldable pub cost-after : (w text : List ℕ) → (c : ℕ) → ℕ
-cost-after w ts c = stepped w (state-of w ts) c .cost
-
+-- the place that is found with byte c after a text, where text and byte end with the code
 unfoldable pub found-after : (w text : List ℕ) → (c : ℕ) → List ℕ
 found-after w ts c = place-if (ends-with (ts ++ (c ∷ [])) w (length w)) (suc (length ts) - length w)
 
--- one byte
+-- ONE BYTE: its cost (`cost-after`) is that of the step from the state that belongs to the text
 unfoldable pub machine-byte : (w : List ℕ) → (c : ℕ) → Machine → Machine
 machine-byte w c m =
     machine (m .text ++ (c ∷ [])) (m .total + cost-after w (m .text) c) (m .found ++ found-after w (m .text) c)

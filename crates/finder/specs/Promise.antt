@@ -11,15 +11,15 @@ use Rattle.runs.specs.declared.Ending.the-variants.{PieceDone}
 use Rattle.runs.specs.Reading.{fed, ending-refusal, ending-full}
 use Rattle.runs.specs.Calls.{Outcome, run, Call, called}
 use Rattle.automaton.specs.Ceilings.{byte-ceiling, total-ceiling}
+use Rattle.automaton.specs.Costs.{costs, sum}
 use Rattle.codes.specs.Codes.{accepted}
-use Rattle.codes.specs.Sheet.{sheet}
-use Rattle.codes.specs.Entry.{prepare-refusal, prepare-buffer}
-use Rattle.codes.specs.Promise.{Sheet-of}
+use Rattle.sheets.specs.Sheet.{sheet}
+use Rattle.sheets.specs.Entry.{prepare-refusal, prepare-buffer}
 use Rattle.finder.specs.declared.Watch.{Watch}
 use Rattle.finder.specs.declared.Feeding.{Feeding}
 use Rattle.finder.specs.Feed.{opened, fit, feeder, feed}
 use Rattle.finder.specs.Machine.{Machine, machine-start, call-refusal, machine-after, machine-refusals}
-use Rattle.finder.specs.Texts.{places, costs, sum, watch-of}
+use Rattle.finder.specs.Texts.{places, watch-of}
 use Rattle.finder.specs.Entry.{Lent, Feed-call, feed-refusal, feed-call, Feed-says, feed-run, told-places, told-refusal, plain}
 
 -- THE THIRD DEMAND: a watch has what the plain machine has, and the machine's costs keep to both ceilings
@@ -86,7 +86,7 @@ Endings-told =
 unfoldable pub Sheets-told : Type 0
 Sheets-told =
     (buffer : List ℕ) (x : Watch) (l : Lent) →
-    (ending-refusal (feed-call buffer x l .answer .ending) ≡ 4) ↔ (Sheet-of buffer → ⊥)
+    (ending-refusal (feed-call buffer x l .answer .ending) ≡ 4) ↔ ((w rest : List ℕ) → accepted w ≡ true → buffer ≢ sheet w ++ rest)
 
 -- bytes behind the sheet are not looked at, whatever the watch
 unfoldable pub Behind-unread : Type 0

@@ -3,26 +3,27 @@ use mathlib.Core.List.{List, [], _∷_, _++_, map}
 use Prim.Native.Nat.{ℕ, suc}
 use lib.ListN.{length}
 use Rattle.automaton.specs.Ceilings.{byte-ceiling, total-ceiling}
+use Rattle.automaton.specs.Costs.{costs}
 use Rattle.automaton.specs.Samples.{Sample, Agree, A, B, C, Z, abaab}
-use Rattle.codes.specs.Sheet.{sheet}
-use Rattle.runs.specs.Reading.{ending, ending-full}
+use Rattle.sheets.specs.Sheet.{sheet}
+use Rattle.runs.specs.Reading.{Fed, ending, ending-full}
 use Rattle.finder.specs.declared.Watch.{Watch}
-use Rattle.finder.specs.Feed.{opened, spots, Fed, feed}
+use Rattle.finder.specs.Feed.{opened, spots, feed}
 use Rattle.finder.specs.Machine.{machine-start, machine-refusals}
-use Rattle.finder.specs.Texts.{places, costs, watch-of}
+use Rattle.finder.specs.Texts.{places, watch-of}
 use Rattle.finder.specs.Entry.{Lent, lent, feed-run, told-places, told-refusal, plain}
 
 -- the sheet of a code
-unfoldable pub prepared : (code bytes : List ℕ) → Sample
-prepared w bs = record { found = sheet w ∷ []; expected = bs ∷ [] }
+unfoldable pub preparing : (code bytes : List ℕ) → Sample
+preparing w bs = record { found = sheet w ∷ []; expected = bs ∷ [] }
 
 -- a text fed as one piece from an opening on, with room for all its places
-unfoldable pub fed-whole : (code text : List ℕ) → Fed
+unfoldable pub fed-whole : (code text : List ℕ) → Fed Watch ℕ
 fed-whole w ts = feed w ts (suc (length ts)) opened
 
 -- the places of a code in a text; the bytes taken, the places reported, the comparisons and the total ceiling
-unfoldable pub searched : (code text places : List ℕ) → (bytes hits compares ceiling : ℕ) → Sample
-searched w ts ps n h k c =
+unfoldable pub searching : (code text places : List ℕ) → (bytes hits compares ceiling : ℕ) → Sample
+searching w ts ps n h k c =
     let f = fed-whole w ts in
     record {
       found = f .told ∷ (f .taken ∷ f .after .hits ∷ f .after .compares ∷ total-ceiling (length w) (length ts) ∷ []) ∷ [];
@@ -45,8 +46,8 @@ calling w cs k ps ws n e =
 
 -- a run of calls of `feed` on a sheet with a byte behind it: the places written, and those of the bytes taken; these bytes; the watch's four numbers, and
 -- those of the watch of these bytes; the refusals, and those of the plain machine
-abbrev numbers : Watch → List ℕ
-numbers x = x .state ∷ x .taken ∷ x .hits ∷ x .compares ∷ []
+abbrev four-numbers : Watch → List ℕ
+four-numbers x = x .state ∷ x .taken ∷ x .hits ∷ x .compares ∷ []
 
 unfoldable pub running : (code : List ℕ) → (calls : List Lent) → (places bytes watch refusals : List ℕ) → Sample
 running w ls ps bs ws rs =
@@ -54,29 +55,29 @@ running w ls ps bs ws rs =
     let r = feed-run told-places a ls in
     record {
       found =
-          r .told ∷ places w (r .bytes) ∷ r .bytes ∷ numbers (r .after) ∷ numbers (watch-of w (r .bytes))
+          r .told ∷ places w (r .bytes) ∷ r .bytes ∷ four-numbers (r .after) ∷ four-numbers (watch-of w (r .bytes))
           ∷ feed-run told-refusal a ls .told ∷ machine-refusals w (map plain ls) machine-start ∷ [];
       expected = ps ∷ ps ∷ bs ∷ ws ∷ ws ∷ rs ∷ rs ∷ [];
     }
 
 -- THE TABLE
-unfoldable pub samples : List Sample
-samples =
-    prepared (A ∷ []) (1 ∷ 97 ∷ 0 ∷ 1 ∷ 1 ∷ [])
-    ∷ prepared (A ∷ A ∷ A ∷ []) (3 ∷ 97 ∷ 97 ∷ 97 ∷ 0 ∷ 0 ∷ 0 ∷ 1 ∷ 3 ∷ [])
-    ∷ prepared (A ∷ A ∷ B ∷ []) (3 ∷ 97 ∷ 97 ∷ 98 ∷ 0 ∷ 0 ∷ 1 ∷ 2 ∷ 2 ∷ 1 ∷ [])
-    ∷ prepared abaab (5 ∷ 97 ∷ 98 ∷ 97 ∷ 97 ∷ 98 ∷ 0 ∷ 1 ∷ 1 ∷ 2 ∷ 3 ∷ 4 ∷ 1 ∷ 2 ∷ 1 ∷ 3 ∷ [])
-    ∷ searched (A ∷ A ∷ []) (A ∷ A ∷ A ∷ A ∷ []) (0 ∷ 1 ∷ 2 ∷ []) 4 3 4 6
-    ∷ searched (A ∷ B ∷ []) (A ∷ B ∷ A ∷ B ∷ []) (0 ∷ 2 ∷ []) 4 2 6 6
-    ∷ searched (A ∷ B ∷ A ∷ C ∷ []) (A ∷ B ∷ A ∷ Z ∷ []) [] 4 0 7 7
+unfoldable pub call-samples : List Sample
+call-samples =
+    preparing (A ∷ []) (1 ∷ 97 ∷ 0 ∷ 1 ∷ 1 ∷ [])
+    ∷ preparing (A ∷ A ∷ A ∷ []) (3 ∷ 97 ∷ 97 ∷ 97 ∷ 0 ∷ 0 ∷ 0 ∷ 1 ∷ 3 ∷ [])
+    ∷ preparing (A ∷ A ∷ B ∷ []) (3 ∷ 97 ∷ 97 ∷ 98 ∷ 0 ∷ 0 ∷ 1 ∷ 2 ∷ 2 ∷ 1 ∷ [])
+    ∷ preparing abaab (5 ∷ 97 ∷ 98 ∷ 97 ∷ 97 ∷ 98 ∷ 0 ∷ 1 ∷ 1 ∷ 2 ∷ 3 ∷ 4 ∷ 1 ∷ 2 ∷ 1 ∷ 3 ∷ [])
+    ∷ searching (A ∷ A ∷ []) (A ∷ A ∷ A ∷ A ∷ []) (0 ∷ 1 ∷ 2 ∷ []) 4 3 4 6
+    ∷ searching (A ∷ B ∷ []) (A ∷ B ∷ A ∷ B ∷ []) (0 ∷ 2 ∷ []) 4 2 6 6
+    ∷ searching (A ∷ B ∷ A ∷ C ∷ []) (A ∷ B ∷ A ∷ Z ∷ []) [] 4 0 7 7
     ∷ costing (A ∷ B ∷ A ∷ C ∷ []) (A ∷ B ∷ A ∷ Z ∷ []) (1 ∷ 2 ∷ 1 ∷ 3 ∷ []) 3
-    ∷ searched abaab (A ∷ B ∷ A ∷ A ∷ B ∷ A ∷ B ∷ A ∷ A ∷ B ∷ []) (0 ∷ 5 ∷ []) 10 2 15 18
+    ∷ searching abaab (A ∷ B ∷ A ∷ A ∷ B ∷ A ∷ B ∷ A ∷ A ∷ B ∷ []) (0 ∷ 5 ∷ []) 10 2 15 18
     ∷ calling (A ∷ A ∷ []) (A ∷ A ∷ A ∷ A ∷ []) 1 (0 ∷ []) (2 ∷ 2 ∷ 1 ∷ 2 ∷ []) 2 1
-    ∷ searched abaab [] [] 0 0 0 0
+    ∷ searching abaab [] [] 0 0 0 0
     ∷ running (A ∷ B ∷ []) (lent (A ∷ B ∷ A ∷ []) (Z ∷ []) ∷ lent (A ∷ []) [] ∷ lent (A ∷ B ∷ B ∷ []) (Z ∷ Z ∷ Z ∷ []) ∷ [])
     (0 ∷ 2 ∷ []) (A ∷ B ∷ A ∷ B ∷ B ∷ []) (0 ∷ 5 ∷ 2 ∷ 7 ∷ []) (0 ∷ 6 ∷ 0 ∷ [])
     ∷ []
 
 -- all its rows agree: what is found is what is expected
-unfoldable pub Samples-hold : Type 0
-Samples-hold = Agree samples
+unfoldable pub Call-samples-hold : Type 0
+Call-samples-hold = Agree call-samples

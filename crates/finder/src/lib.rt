@@ -1,20 +1,21 @@
 // Feeding: the watch (the scan's state), and one pass over the pieces of a text, a byte at a time.
 // The order of comparisons is one that Hancart's theorem 4.6 covers: the backward labels first, by falling target, then the forward label.
 ghost use mathlib.Core.Path.{_≡_};
-ghost use Prim.Native.Nat.{_+_, _-_, _≤_, _<_};
-ghost use lib.ListN.{length, getD};
+ghost use mathlib.Core.Bool.{true};
+ghost use Prim.Native.Nat.{_+_, _≤_, _<_};
+ghost use lib.ListN.{length};
 ghost use Rattle.runs.specs.Reading.{longest-text};
-ghost use Rattle.automaton.specs.Arrows.{try-forward, stepped};
+ghost use Rattle.automaton.specs.Arrows.{label, arrows-below, back-arrows, try-forward, stepped};
 ghost use Rattle.codes.specs.Codes.{longest-code};
-ghost use Rattle.codes.specs.Sheet.{named};
+ghost use Rattle.sheets.specs.Sheet.{target-place, named, begins};
 ghost use Rattle.finder.specs.Feed.{opened, fit};
 ghost use Rattle.finder.specs.Entry.{lent, feed-refusal, Feed-says};
-ghost use Rattle.finder.specs.Inside.{On-sheet, Ready, Skipped, Turning, Come-to, Turned, Took};
+ghost use Rattle.finder.specs.Inside.{Target-at, Ready, Skipped, Turning, Come-to, Turned, Took};
 use automaton::Arrow;
 use automaton::Step;
-use codes::is_sheet;
-use codes::wide;
 use runs::Ending;
+use sheets::is_sheet;
+use sheets::wide;
 
 // A watch (the state of a scan), document 01's p, n, h and c: the automaton's state, the bytes taken since the opening, the places reported,
 // and the labels compared with bytes of the text.
@@ -60,13 +61,47 @@ pub struct Feeding {
     pub ending: Ending,
 }
 
+// READING A SHEET: only the next four functions know where its bytes are, and what they tell is told of the code.
+
+// The code's length.
+fn code_length(sheet: &[u8]) -> usize
+    requires { ⌜ begins (now sheet) ≡ true ⌝ }
+    ensures { λ r. ⌜ (r ≡ length (named (now (sheet .entry)))) × (r ≤ longest-code) ⌝ }
+{
+    wide(sheet[0])
+}
+
+// The label of an arrow with target t.
+fn label(sheet: &[u8], t: usize) -> u8
+    requires { ⌜ (begins (now sheet) ≡ true) × (1 ≤ t) × (t ≤ length (named (now sheet))) ⌝ }
+    ensures { λ r. ⌜ r ≡ label (named (now (sheet .entry))) t ⌝ }
+{
+    sheet[t]
+}
+
+// The place in the sheet behind the targets of the states below s, s being 1 or more, for a code of m bytes.
+fn targets_below(sheet: &[u8], m: usize, s: usize) -> usize
+    requires { ⌜ (begins (now sheet) ≡ true) × (m ≡ length (named (now sheet))) × (1 ≤ s) × (s ≤ m + 1) ⌝ }
+    ensures { λ r. ⌜ r ≡ target-place m (arrows-below (named (now (sheet .entry))) s) ⌝ }
+{
+    2 * m + 2 + wide(sheet[m + s])
+}
+
+// The target at a place of the sheet.
+fn target(sheet: &[u8], at: usize) -> usize
+    requires { ⌜ (begins (now sheet) ≡ true) × (at < target-place (length (named (now sheet))) (back-arrows (named (now sheet)))) ⌝ }
+    ensures { λ r. ⌜ Target-at (named (now (sheet .entry))) at r ⌝ }
+{
+    wide(sheet[at])
+}
+
 // The forward arrow of p, after `cost` labels were compared.
 fn forward_step(sheet: &[u8], m: usize, p: usize, byte: u8, cost: u32) -> Step
-    requires { ⌜ On-sheet (now sheet) × (m ≡ length (named (now sheet))) × (p ≤ m) × (cost < 256) ⌝ }
+    requires { ⌜ (begins (now sheet) ≡ true) × (m ≡ length (named (now sheet))) × (p ≤ m) × (cost ≤ longest-code) ⌝ }
     ensures { λ r. ⌜ r ≡ try-forward cost (named (now (sheet .entry))) p byte ⌝ }
 {
     if p < m {
-        if sheet[p + 1] == byte {
+        if label(sheet, p + 1) == byte {
             return Step {
                 state: (p + 1) as u32,
                 cost: cost + 1,
@@ -88,24 +123,25 @@ fn forward_step(sheet: &[u8], m: usize, p: usize, byte: u8, cost: u32) -> Step
 
 // One byte from a state p of 1 or more: backward labels by falling target, then the forward one. Each turn compares one label.
 fn follow(sheet: &[u8], p: usize, byte: u8) -> Step
-    requires { ⌜ On-sheet (now sheet) × (1 ≤ p) × (p ≤ length (named (now sheet))) ⌝ }
+    requires { ⌜ (begins (now sheet) ≡ true) × (1 ≤ p) × (p ≤ length (named (now sheet))) ⌝ }
     ensures { λ r. ⌜ r ≡ stepped (named (now (sheet .entry))) p byte ⌝ }
 {
-    let m = wide(sheet[0]);
-    let end = 2 * m + 2 + wide(sheet[m + 1 + p]);
-    let mut i = 2 * m + 2 + wide(sheet[m + p]);
+    let m = code_length(sheet);
+    let end = targets_below(sheet, m, p + 1);
+    let mut at = targets_below(sheet, m, p);
     let mut cost: u32 = 0;
-    while i < end {
-        let t = wide(sheet[i]);
+    while at < end {
+        let t = target(sheet, at);
         cost += 1;
-        if sheet[t] == byte {
+        if label(sheet, t) == byte {
+            let target = t as u32;
             return Step {
-                state: t as u32,
+                state: target,
                 cost: cost,
-                arrow: Arrow::Back(t as u32),
+                arrow: Arrow::Back(target),
             };
         }
-        i += 1;
+        at += 1;
     }
     forward_step(sheet, m, p, byte, cost)
 }
@@ -184,7 +220,7 @@ fn skip(piece: &[u8], from: usize, byte: u8) -> usize
 
 // The step from state 0 on the code's first byte, which `skip` has compared already.
 fn first_step(sheet: &[u8], byte: u8) -> Step
-    requires { ⌜ On-sheet (now sheet) × (byte ≡ getD (now sheet) 1 0) ⌝ }
+    requires { ⌜ (begins (now sheet) ≡ true) × (byte ≡ label (named (now sheet)) 1) ⌝ }
     ensures { λ r. ⌜ r ≡ stepped (named (now (sheet .entry))) 0 byte ⌝ }
 {
     Step {
@@ -199,7 +235,7 @@ fn from_start(sheet: &[u8], m: u32, before: u32, piece: &[u8], i: usize) -> Turn
     requires { ⌜ Turning (now sheet) m before 0 (now piece) i ⌝ }
     ensures { λ r. ⌜ Turned (named (now (sheet .entry))) (now (piece .entry)) before 0 i r ⌝ }
 {
-    let j = skip(piece, i, sheet[1]);
+    let j = skip(piece, i, label(sheet, 1));
     let cost = (j - i) as u64;
     if j == piece.len() {
         return Turn {
@@ -246,11 +282,11 @@ fn advance(sheet: &[u8], m: u32, before: u32, p: u32, piece: &[u8], i: usize) ->
 // The bytes of a piece, until it ends or the list is full. From turn to turn only the state, the cost and the two counts are kept, which makes texts full
 // of places about 1.6 times as fast.
 fn take_bytes(sheet: &[u8], watch: Watch, piece: &[u8], places: &mut [u32]) -> Feeding
-    requires { ⌜ On-sheet (now sheet) × Ready (length (named (now sheet))) watch (length (now piece)) ⌝ }
+    requires { ⌜ (begins (now sheet) ≡ true) × Ready (length (named (now sheet))) watch (length (now piece)) ⌝ }
     ensures { λ r. ⌜
         Took (named (now (sheet .entry))) watch (lent (now (piece .entry)) (now (places .entry))) r (lent (now (piece .exit)) (now (places .exit))) ⌝ }
 {
-    let m = wide(sheet[0]) as u32;
+    let m = code_length(sheet) as u32;
     let mut state = watch.state;
     let mut cost: u64 = 0;
     let mut i = 0;
@@ -270,15 +306,17 @@ fn take_bytes(sheet: &[u8], watch: Watch, piece: &[u8], places: &mut [u32]) -> F
     if i < piece.len() {
         ending = Ending::ListFull;
     }
+    let taken = i as u32;
+    let written = k as u32;
     Feeding {
         watch: Watch {
             state: state,
-            taken: watch.taken + (i as u32),
-            hits: watch.hits + (k as u32),
+            taken: watch.taken + taken,
+            hits: watch.hits + written,
             compares: watch.compares + cost,
         },
-        taken: i as u32,
-        written: k as u32,
+        taken: taken,
+        written: written,
         ending: ending,
     }
 }
@@ -306,7 +344,7 @@ fn feed_refusal(sheet: &[u8], x: Watch, piece: usize, room: usize) -> u32
     if !is_sheet(sheet) {
         return 4;
     }
-    if !is_fit(wide(sheet[0]) as u32, x) {
+    if !is_fit(code_length(sheet) as u32, x) {
         return 5;
     }
     if room == 0 {

@@ -10,7 +10,7 @@ use lib.ListN.{length, length-append}
 use Rattle.words.proofs.Tests.{by-le}
 use Rattle.words.proofs.Lists.{length-snoc}
 use Rattle.forms.specs.Ascii.{ascii}
-use Rattle.forms.specs.Text.{digits-of, decimal, numbered, place-form, end-form, refused-form}
+use Rattle.forms.specs.Text.{digits-of, decimal, with-number, place-form, end-form, refused-form}
 use Rattle.io.specs.Digits.{glyph, digits, Fewest}
 
 -- a power of ten is above its exponent
@@ -75,31 +75,32 @@ unfolding decimal
 decimal-few n k h l = digits-few (suc n) n k h l
 
 -- the forms of numbers of 32 and 64 bits
-numbered-few : (bs : List ℕ) (n k : ℕ) → 1 ≤ k → n < 10 ^ k → length (bs ++ decimal n) ≤ length bs + k
-numbered-few bs n k h l = omega (arith, length-append bs (decimal n), decimal-few n k h l)
+with-number-short : (bs : List ℕ) (n k : ℕ) → 1 ≤ k → n < 10 ^ k → length (bs ++ decimal n) ≤ length bs + k
+with-number-short bs n k h l = omega (arith, length-append bs (decimal n), decimal-few n k h l)
+
+form-short : (bs : List ℕ) (n : ℕ) → n < 2 ^ 32 → length (bs ++ decimal n ++ ascii ")\n") ≤ length bs + 12
+form-short bs n l = omega (arith, length-append (bs ++ decimal n) (ascii ")\n"), with-number-short bs n 10 (lit≤ tt) (omega arith))
 
 pub place-short : (p : ℕ) → p < 2 ^ 32 → length (place-form p) ≤ 16
 unfolding place-form
-place-short p l =
-    omega (arith, length-append (numbered "(at " p) (ascii ")\n"), numbered-few (ascii "(at ") p 10 (lit≤ tt) (omega arith))
+place-short p l = form-short (ascii "(at ") p l
 
 pub refused-short : (r : ℕ) → r < 2 ^ 32 → length (refused-form r) ≤ 21
 unfolding refused-form
-refused-short r l =
-    omega (arith, length-append (numbered "(refused " r) (ascii ")\n"), numbered-few (ascii "(refused ") r 10 (lit≤ tt) (omega arith))
+refused-short r l = form-short (ascii "(refused ") r l
 
 pub end-short : (n h c : ℕ) → n < 2 ^ 32 → h < 2 ^ 32 → c < 2 ^ 64 → length (end-form n h c) ≤ 75
 unfolding end-form
 end-short n h c k l m =
-    let a : List ℕ = numbered "(end (bytes " n in
-    let b : List ℕ = numbered ") (hits " h in
-    let d : List ℕ = numbered ") (compares " c in
+    let a : List ℕ = with-number "(end (bytes " n in
+    let b : List ℕ = with-number ") (hits " h in
+    let d : List ℕ = with-number ") (compares " c in
     omega (
       arith,
       length-append a b,
       length-append (a ++ b) d,
       length-append (a ++ b ++ d) (ascii "))\n"),
-      numbered-few (ascii "(end (bytes ") n 10 (lit≤ tt) (omega arith),
-      numbered-few (ascii ") (hits ") h 10 (lit≤ tt) (omega arith),
-      numbered-few (ascii ") (compares ") c 20 (lit≤ tt) (omega arith),
+      with-number-short (ascii "(end (bytes ") n 10 (lit≤ tt) (omega arith),
+      with-number-short (ascii ") (hits ") h 10 (lit≤ tt) (omega arith),
+      with-number-short (ascii ") (compares ") c 20 (lit≤ tt) (omega arith),
     )

@@ -72,34 +72,29 @@ pub line-wrong : (n b : ℕ) (a : List ℕ) → b ≢ line-feed → After (Close
 unfolding line-after kept-after
 line-wrong n b a h = rw (ne-eqb b line-feed h) (refl, refl)
 
--- READING on while the line goes on
-module _ (b : ℕ) (bs a : List ℕ) where
-  pub read-opening : (n : ℕ) → read (Opening n) a (b ∷ bs) ≡ read (line-after (length a) (Opening n) b) a bs
-  unfolding read kept-after
-  read-opening n = refl
-
-  pub read-on : (l m : Line) (c : List ℕ) → goes-on l ≡ true → After l b a m c → read l a (b ∷ bs) ≡ read m c bs
-  unfolding read
-  read-on l m c t h = rw (t, h .0, h .1) refl
-
--- what stays as it is
-read-wrong : (a bs : List ℕ) → read Wrong a bs .line ≡ Wrong
+-- READING: one byte more or the input's end, while the line goes on; a line that is read stays as it is
+pub read-on : (b : ℕ) (bs a : List ℕ) (l m : Line) (c : List ℕ) → goes-on l ≡ true → After l b a m c → read l a (b ∷ bs) ≡ read m c bs
 unfolding read
-read-wrong a [] = refl
-read-wrong a (b ∷ bs) = refl
+read-on b bs a l m c t h = rw (t, h .0, h .1) refl
 
-read-done : (n : ℕ) (a bs : List ℕ) → read (Done n) a bs ≡ record { line = Done n; kept = a; rest = bs }
-unfolding read
-read-done n a [] = refl
-read-done n a (b ∷ bs) = refl
-
-read-end : (l : Line) (a : List ℕ) → goes-on l ≡ true → read l a [] .line ≡ Wrong
+pub read-end : (l : Line) (a : List ℕ) → goes-on l ≡ true → read l a [] ≡ read Wrong a []
 unfolding read
 read-end l a t = rw t refl
 
+pub read-over : (l : Line) (a bs : List ℕ) → goes-on l ≡ false → read l a bs ≡ record { line = l; kept-bytes = a; rest = bs }
+unfolding read
+read-over l a [] t = rw t refl
+read-over l a (b ∷ bs) t = rw t refl
+
+stays-wrong : (a bs : List ℕ) → read Wrong a bs .line ≡ Wrong
+stays-wrong a bs = ap (λ (r : Read). r .line) (read-over Wrong a bs refl)
+
+ends-wrong : (l : Line) (a : List ℕ) → goes-on l ≡ true → read l a [] .line ≡ Wrong
+ends-wrong l a t = ap (λ (r : Read). r .line) (read-end l a t) ∙ stays-wrong a []
+
 -- THE CODE and the line's end are read
 abbrev read-to : (n : ℕ) → (kept text : List ℕ) → Read
-read-to n a ts = record { line = Done n; kept = a; rest = ts }
+read-to n a ts = record { line = Done n; kept-bytes = a; rest = ts }
 
 code-read : (code text a : List ℕ) (n : ℕ) → n ≤ length a → Every (λ b. of-code b ≡ true) code →
     read (Code n) a (code ++ bracket ∷ line-feed ∷ text) ≡ read-to (min (n + length code) (length a)) (sets a n code) text
@@ -107,7 +102,7 @@ code-read [] text a n h t =
     let e : n ≡ min (n + 0) (length a) = omega arith in
     read-on bracket (line-feed ∷ text) a (Code n) (Closed n) a refl (code-closed n bracket a refl)
     ∙ read-on line-feed text a (Closed n) (Done n) a refl (line-done n line-feed a refl)
-    ∙ read-done n a text
+    ∙ read-over (Done n) a text refl
     ∙ ap (λ (k : ℕ). read-to k a text) e
 code-read (b ∷ bs) text a n h t =
     by-le (length a) n
@@ -138,16 +133,16 @@ lines-read input code text kept f =
 
 -- NOTHING ELSE is: a line that is not wrong has the opening, a code, its bracket and a line feed
 closed-only : (n : ℕ) (a bs : List ℕ) → ((text : List ℕ) → bs ≡ line-feed ∷ text → ⊥) → read (Closed n) a bs .line ≡ Wrong
-closed-only n a [] h = read-end (Closed n) a refl
+closed-only n a [] h = ends-wrong (Closed n) a refl
 closed-only n a (b ∷ bs) h =
     by-eq b line-feed
     (λ (e : b ≡ line-feed). absurd (h bs (ap (λ (c : ℕ). c ∷ bs) e)))
-    (λ (e : b ≢ line-feed). ap (λ (r : Read). r .line) (read-on b bs a (Closed n) Wrong a refl (line-wrong n b a e)) ∙ read-wrong a bs)
+    (λ (e : b ≢ line-feed). ap (λ (r : Read). r .line) (read-on b bs a (Closed n) Wrong a refl (line-wrong n b a e)) ∙ stays-wrong a bs)
 
 code-only : (n : ℕ) (a bs : List ℕ) →
     ((code text : List ℕ) → Every (λ b. of-code b ≡ true) code → bs ≡ code ++ bracket ∷ line-feed ∷ text → ⊥) →
     read (Code n) a bs .line ≡ Wrong
-code-only n a [] h = read-end (Code n) a refl
+code-only n a [] h = ends-wrong (Code n) a refl
 code-only n a (b ∷ bs) h =
     by-eq b bracket
     (λ (e : b ≡ bracket).
@@ -155,7 +150,7 @@ code-only n a (b ∷ bs) h =
     ∙ closed-only n a bs (λ text f. h [] text tt (rw (e, f) refl)))
     (λ (e : b ≢ bracket).
     by-eq b line-feed
-    (λ (f : b ≡ line-feed). ap (λ (r : Read). r .line) (read-on b bs a (Code n) Wrong a refl (code-wrong n b a f)) ∙ read-wrong a bs)
+    (λ (f : b ≡ line-feed). ap (λ (r : Read). r .line) (read-on b bs a (Code n) Wrong a refl (code-wrong n b a f)) ∙ stays-wrong a bs)
     (λ (f : b ≢ line-feed).
     let t : of-code b ≡ true = is-of-code b e f in
     by-le (length a) n
@@ -170,24 +165,25 @@ code-only n a (b ∷ bs) h =
 opening-split : (n b : ℕ) (bs rest : List ℕ) → n < 6 → getD opening n 0 ≡ b → bs ≡ drop (suc n) opening ++ rest → b ∷ bs ≡ drop n opening ++ rest
 opening-split n b bs rest h e f = rw (drop-cons opening n 0 h, e, f) refl
 
-opening-byte : (n b : ℕ) (a bs : List ℕ) (m : Line) → line-after (length a) (Opening n) b ≡ m → read (Opening n) a (b ∷ bs) .line ≡ read m a bs .line
-opening-byte n b a bs m e = ap (λ (r : Read). r .line) (read-opening b bs a n ∙ ap (λ (l : Line). read l a bs) e)
+opening-goes : (n b : ℕ) (a bs : List ℕ) (m : Line) → line-after (length a) (Opening n) b ≡ m → read (Opening n) a (b ∷ bs) .line ≡ read m a bs .line
+unfolding kept-after
+opening-goes n b a bs m e = ap (λ (r : Read). r .line) (read-on b bs a (Opening n) m a refl (sym e, refl))
 
 opening-only : (k n : ℕ) (a bs : List ℕ) → n + suc k ≡ 6 →
     ((rest : List ℕ) → bs ≡ drop n opening ++ rest → read (Code 0) a rest .line ≡ Wrong) → read (Opening n) a bs .line ≡ Wrong
-opening-only k n a [] m h = read-end (Opening n) a refl
+opening-only k n a [] m h = ends-wrong (Opening n) a refl
 opening-only zero n a (b ∷ bs) m h =
     let last : n ≡ 5 = omega arith in
     by-eq (getD opening n 0) b
     (λ (e : getD opening n 0 ≡ b).
-    opening-byte n b a bs (Code 0) (opening-last (length a) n b last e) ∙ h bs (opening-split n b bs bs (omega arith) e (rw last refl)))
-    (λ (e : getD opening n 0 ≢ b). opening-byte n b a bs Wrong (opening-wrong (length a) n b e) ∙ read-wrong a bs)
+    opening-goes n b a bs (Code 0) (opening-last (length a) n b last e) ∙ h bs (opening-split n b bs bs (omega arith) e (rw last refl)))
+    (λ (e : getD opening n 0 ≢ b). opening-goes n b a bs Wrong (opening-wrong (length a) n b e) ∙ stays-wrong a bs)
 opening-only (suc k) n a (b ∷ bs) m h =
     by-eq (getD opening n 0) b
     (λ (e : getD opening n 0 ≡ b).
-    opening-byte n b a bs (Opening (n + 1)) (opening-more (length a) n b (omega arith) e)
+    opening-goes n b a bs (Opening (n + 1)) (opening-more (length a) n b (omega arith) e)
     ∙ opening-only k (n + 1) a bs (omega arith) (λ rest f. h rest (opening-split n b bs rest (omega arith) e (rw (add-one n) at f))))
-    (λ (e : getD opening n 0 ≢ b). opening-byte n b a bs Wrong (opening-wrong (length a) n b e) ∙ read-wrong a bs)
+    (λ (e : getD opening n 0 ≢ b). opening-goes n b a bs Wrong (opening-wrong (length a) n b e) ∙ stays-wrong a bs)
 
 pub others-refused : Others-refused
 unfolding Others-refused

@@ -58,11 +58,16 @@ bytes-next bs i h f g = rw (add-one i, take-suc bs i 0 h) (written-on f g)
 pub bytes-done : (bs : List ℕ) (i : ℕ) {a b : List ℕ} {at end : ℕ} → length bs ≤ i → Written (take i bs) at a end b → Written bs at a end b
 bytes-done bs i h f = rw (take-all i bs h) at f
 
--- a list of places, one by one
-forms-more : (xs : List ℕ) (p : ℕ) → place-forms (xs ++ (p ∷ [])) ≡ place-forms xs ++ place-form p
+-- PLACES at once, or the first ones and then the others
+pub forms-append : (ps qs : List ℕ) → place-forms (ps ++ qs) ≡ place-forms ps ++ place-forms qs
 unfolding place-forms
-forms-more [] p = append-nil (place-form p)
-forms-more (x ∷ xs) p = ap (λ (l : List ℕ). place-form x ++ l) (forms-more xs p) ∙ sym (append-assoc (place-form x) (place-forms xs) (place-form p))
+forms-append [] qs = refl
+forms-append (p ∷ ps) qs = rw (forms-append ps qs) (sym (append-assoc (place-form p) (place-forms ps) (place-forms qs)))
+
+-- one by one
+forms-more : (ps : List ℕ) (p : ℕ) → place-forms (ps ++ (p ∷ [])) ≡ place-forms ps ++ place-form p
+unfolding place-forms
+forms-more ps p = forms-append ps (p ∷ []) ∙ ap (λ (l : List ℕ). place-forms ps ++ l) (append-nil (place-form p))
 
 pub places-next : (ps : List ℕ) (i : ℕ) {a b c : List ℕ} {at mid end : ℕ} → i < length ps →
     Written (place-forms (take i ps)) at a mid b → Written (place-form (getD ps i 0)) mid b end c →

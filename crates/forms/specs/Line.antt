@@ -48,10 +48,10 @@ goes-on Wrong = false
 -- READING an input while the line goes on; one that ends before that is not of the form
 pub record Read : Type 0 where
   pub line : Line
-  pub kept : List ℕ
+  pub kept-bytes : List ℕ
   pub rest : List ℕ
 
 unfoldable pub read : Line → (kept input : List ℕ) → Read
-read l a [] = record { line = cond (goes-on l) Wrong l; kept = a; rest = [] }
+read l a [] = record { line = cond (goes-on l) Wrong l; kept-bytes = a; rest = [] }
 read l a (b ∷ bs) =
-    cond (goes-on l) (read (line-after (length a) l b) (kept-after l b a) bs) (record { line = l; kept = a; rest = b ∷ bs })
+    cond (goes-on l) (read (line-after (length a) l b) (kept-after l b a) bs) (record { line = l; kept-bytes = a; rest = b ∷ bs })

@@ -18,7 +18,7 @@ pub record Of-form (input code text : List ℕ) : Type 0 where
 unfoldable pub Lines-read : Type 0
 Lines-read =
     (input code text kept : List ℕ) → Of-form input code text →
-    read (Opening 0) kept input ≡ record { line = Done (min (length code) (length kept)); kept = sets kept 0 code; rest = text }
+    read (Opening 0) kept input ≡ record { line = Done (min (length code) (length kept)); kept-bytes = sets kept 0 code; rest = text }
 
 -- any other input is not of the form
 unfoldable pub Others-refused : Type 0

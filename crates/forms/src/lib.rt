@@ -1,10 +1,10 @@
 // The program's forms: the line that its input begins with, and the lines that it prints.
 ghost use mathlib.Core.Path.{_≡_};
 ghost use mathlib.Core.List.{[], _∷_, _++_};
-ghost use Prim.Native.Nat.{_*_, _≤_};
+ghost use Prim.Native.Nat.{_*_};
 ghost use lib.ListN.{length};
 ghost use Rattle.forms.specs.Ascii.{ascii};
-ghost use Rattle.forms.specs.Text.{decimal, place-form, place-forms, end-form, refused-form, Written};
+ghost use Rattle.forms.specs.Text.{decimal, place-form, place-forms, end-form, refused-form, Written, Written-within};
 ghost use Rattle.forms.specs.Line.{line-after, kept-after, goes-on};
 
 // How far the first line was read: so many bytes of `(code `; of the code, with so many bytes kept; its closing bracket;
@@ -48,7 +48,9 @@ fn opening_byte(n: usize, byte: u8) -> Line
 
 // One byte of the code or its closing bracket, after n bytes that were kept. Of a code with more bytes than have room the rest is not kept.
 fn code_byte(n: usize, byte: u8, kept: &mut [u8]) -> Line
-    ensures { λ r. ⌜ (r ≡ line-after (length (now (kept .entry))) (Line.Code n) byte) × (now (kept .exit) ≡ kept-after (Line.Code n) byte (now (kept .entry))) ⌝ }
+    ensures { λ r. ⌜
+        (r ≡ line-after (length (now (kept .entry))) (Line.Code n) byte)
+        × (now (kept .exit) ≡ kept-after (Line.Code n) byte (now (kept .entry))) ⌝ }
 {
     if byte == b')' {
         return Line::Closed(n);
@@ -126,14 +128,15 @@ fn put_form(buffer: &mut [u8], at: usize, bytes: &[u8], n: u64) -> usize
 
 // Writes the form of a place, of 16 bytes at most.
 fn put_place(buffer: &mut [u8], at: usize, place: u32) -> usize
-    ensures { λ r. ⌜ Written (place-form place) at (now (buffer .entry)) r (now (buffer .exit)) × (length (place-form place) ≤ 16) ⌝ }
+    ensures { λ r. ⌜ Written-within 16 (place-form place) at (now (buffer .entry)) r (now (buffer .exit)) ⌝ }
 {
     put_form(buffer, at, b"(at ", place as u64)
 }
 
 // Writes the forms of places, each of 16 bytes at most.
 pub fn put_places(buffer: &mut [u8], at: usize, places: &[u32]) -> usize
-    ensures { λ r. ⌜ Written (place-forms (now (places .entry))) at (now (buffer .entry)) r (now (buffer .exit)) × (length (place-forms (now (places .entry))) ≤ 16 * length (now (places .entry))) ⌝ }
+    ensures { λ r. ⌜
+        Written-within (16 * length (now (places .entry))) (place-forms (now (places .entry))) at (now (buffer .entry)) r (now (buffer .exit)) ⌝ }
 {
     let mut end = at;
     let mut i = 0;
@@ -146,7 +149,7 @@ pub fn put_places(buffer: &mut [u8], at: usize, places: &[u32]) -> usize
 
 // Writes the form of a search's end, of 75 bytes at most: bytes, places and comparisons.
 pub fn put_end(buffer: &mut [u8], at: usize, bytes: u32, hits: u32, compares: u64) -> usize
-    ensures { λ r. ⌜ Written (end-form bytes hits compares) at (now (buffer .entry)) r (now (buffer .exit)) × (length (end-form bytes hits compares) ≤ 75) ⌝ }
+    ensures { λ r. ⌜ Written-within 75 (end-form bytes hits compares) at (now (buffer .entry)) r (now (buffer .exit)) ⌝ }
 {
     let a = put_number(buffer, at, b"(end (bytes ", bytes as u64);
     let b = put_number(buffer, a, b") (hits ", hits as u64);
@@ -156,7 +159,7 @@ pub fn put_end(buffer: &mut [u8], at: usize, bytes: u32, hits: u32, compares: u6
 
 // Writes the form of a refusal, of 21 bytes at most.
 pub fn put_refused(buffer: &mut [u8], at: usize, number: u32) -> usize
-    ensures { λ r. ⌜ Written (refused-form number) at (now (buffer .entry)) r (now (buffer .exit)) × (length (refused-form number) ≤ 21) ⌝ }
+    ensures { λ r. ⌜ Written-within 21 (refused-form number) at (now (buffer .entry)) r (now (buffer .exit)) ⌝ }
 {
     put_form(buffer, at, b"(refused ", number as u64)
 }

@@ -50,19 +50,19 @@ found-few m t us (c ∷ ts) =
 
 -- a test that holds only of texts of at least m bytes
 module _ (m : ℕ) (t : List ℕ → Bool) (fits : (us : List ℕ) → t us ≡ true → m ≤ length us) where
-  abbrev places : (before text : List ℕ) → List ℕ
-  places us ts = over (place-after m t) us ts
+  abbrev found-from : (before text : List ℕ) → List ℕ
+  found-from us ts = over (place-after m t) us ts
 
   -- THEY RISE
-  places-above : (us ts : List ℕ) (b : ℕ) → b ≤ suc (length us) - m → Every (λ y. b ≤ y) (places us ts)
+  places-above : (us ts : List ℕ) (b : ℕ) → b ≤ suc (length us) - m → Every (λ y. b ≤ y) (found-from us ts)
   unfolding over
   places-above us [] b h = tt
   places-above us (c ∷ ts) b h =
       let vs : List ℕ = us ++ (c ∷ []) in
       let n : length vs ≡ suc (length us) = length-snoc us c in
-      every-place (λ y. b ≤ y) (t vs) (suc (length us) - m) (places vs ts) (omega arith) (places-above vs ts b (omega arith))
+      every-place (λ y. b ≤ y) (t vs) (suc (length us) - m) (found-from vs ts) (omega arith) (places-above vs ts b (omega arith))
 
-  places-rise : (us ts : List ℕ) → Rising (places us ts)
+  places-rise : (us ts : List ℕ) → Rising (found-from us ts)
   unfolding over place-if
   places-rise us [] = tt
   places-rise us (c ∷ ts) = go (t (us ++ (c ∷ []))) refl (places-rise (us ++ (c ∷ [])) ts)
@@ -70,7 +70,7 @@ module _ (m : ℕ) (t : List ℕ → Bool) (fits : (us : List ℕ) → t us ≡ 
       vs : List ℕ
       vs = us ++ (c ∷ [])
 
-      go : (b : Bool) → t vs ≡ b → Rising (places vs ts) → Rising (place-if b (suc (length us) - m) ++ places vs ts)
+      go : (b : Bool) → t vs ≡ b → Rising (found-from vs ts) → Rising (place-if b (suc (length us) - m) ++ found-from vs ts)
       go true e r = (places-above vs ts (suc (suc (length us) - m)) (omega (arith, fits vs e, length-snoc us c)), r)
       go false e r = r
 
@@ -93,7 +93,7 @@ module _ (m : ℕ) (t : List ℕ → Bool) (fits : (us : List ℕ) → t us ≡ 
         ends = rw (append-snoc us c ts) at (p .ends);
       }
 
-  member-place : (us ts : List ℕ) (i : ℕ) → member i (places us ts) ≡ true → Place us ts i
+  member-place : (us ts : List ℕ) (i : ℕ) → member i (found-from us ts) ≡ true → Place us ts i
   unfolding over place-if
   member-place us [] i h = absurd (never-both h (member-nil i))
   member-place us (c ∷ ts) i h =
@@ -102,18 +102,18 @@ module _ (m : ℕ) (t : List ℕ → Bool) (fits : (us : List ℕ) → t us ≡ 
       vs : List ℕ
       vs = us ++ (c ∷ [])
 
-      go : (b : Bool) → t vs ≡ b → member i (place-if b (suc (length us) - m) ++ places vs ts) ≡ true →
-          (member i (places vs ts) ≡ true → Place us (c ∷ ts) i) → Place us (c ∷ ts) i
+      go : (b : Bool) → t vs ≡ b → member i (place-if b (suc (length us) - m) ++ found-from vs ts) ≡ true →
+          (member i (found-from vs ts) ≡ true → Place us (c ∷ ts) i) → Place us (c ∷ ts) i
       go true e h more =
           by-eq (suc (length us) - m) i
           (λ (d : suc (length us) - m ≡ i).
           let n : length vs ≡ suc (length us) = length-snoc us c in
           let at : i + m ≡ suc (length us) = omega (arith, fits vs e) in
           record { from = omega arith; within = omega arith; ends = rw (place-here us ts c i at) e })
-          (λ (d : suc (length us) - m ≢ i). more (rw (member-other i (suc (length us) - m) (places vs ts) d) at h))
+          (λ (d : suc (length us) - m ≢ i). more (rw (member-other i (suc (length us) - m) (found-from vs ts) d) at h))
       go false e h more = more h
 
-  place-member : (us ts : List ℕ) (i : ℕ) → Place us ts i → member i (places us ts) ≡ true
+  place-member : (us ts : List ℕ) (i : ℕ) → Place us ts i → member i (found-from us ts) ≡ true
   unfolding over place-if
   place-member us [] i p = absurd (omega (arith, p .from, p .within))
   place-member us (c ∷ ts) i p =
@@ -129,13 +129,13 @@ module _ (m : ℕ) (t : List ℕ → Bool) (fits : (us : List ℕ) → t us ≡ 
       vs : List ℕ
       vs = us ++ (c ∷ [])
 
-      here : i + m ≡ suc (length us) → t vs ≡ true → member i (place-if (t vs) (suc (length us) - m) ++ places vs ts) ≡ true
+      here : i + m ≡ suc (length us) → t vs ≡ true → member i (place-if (t vs) (suc (length us) - m) ++ found-from vs ts) ≡ true
       here d e =
           let at : suc (length us) - m ≡ i = omega (arith, length-snoc us c) in
-          rw (e, at) (member-head i (places vs ts))
+          rw (e, at) (member-head i (found-from vs ts))
 
-      go : (b : Bool) → member i (places vs ts) ≡ true → member i (place-if b (suc (length us) - m) ++ places vs ts) ≡ true
-      go true r = member-more i (suc (length us) - m) (places vs ts) r
+      go : (b : Bool) → member i (found-from vs ts) ≡ true → member i (place-if b (suc (length us) - m) ++ found-from vs ts) ≡ true
+      go true r = member-more i (suc (length us) - m) (found-from vs ts) r
       go false r = r
 
   -- of a whole text

@@ -5,8 +5,8 @@ use mathlib.Core.Bool.{Bool, true, false, cond}
 use mathlib.Core.List.{List, [], _∷_, _++_, append-nil, append-assoc}
 use Prim.Native.Nat.{ℕ, suc, _+_, _-_}
 use native.Mathlib.Omega.{arith}
-use lib.Dec.{ltb, eqb}
-use lib.ListN.{length, take}
+use lib.Dec.{eqb}
+use lib.ListN.{take}
 use lib.Seq.{append-snoc}
 use Rattle.runs.specs.Reading.{over, Reader, Fed, fed, fed-more, feed}
 use Rattle.runs.specs.Calls.{Outcome, run, Call, unless-refused, called}
@@ -14,7 +14,8 @@ use Rattle.runs.proofs.Over.{over-nil, over-append}
 use Rattle.runs.proofs.Feeds.{feed-cases}
 
 -- after the text ts, bytes bs were taken: the state is that of the text, and what was told is what is found at each byte
-pub record Reads {X A : Type 0} (of : (text : List ℕ) → X) (found : (before : List ℕ) → (c : ℕ) → List A) (ts bs : List ℕ) (x : X) (told : List A) : Type 0 where
+pub record Reads {X A : Type 0} (of : (text : List ℕ) → X) (found : (before : List ℕ) → (c : ℕ) → List A) (ts bs : List ℕ) (x : X) (told : List A)
+    : Type 0 where
   pub state : x ≡ of (ts ++ bs)
   pub tells : told ≡ over found ts bs
 

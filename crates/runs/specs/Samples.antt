@@ -20,8 +20,8 @@ call cs k = record { piece = cs; room = k }
 abbrev refuses : Call → ℕ → ℕ
 refuses c x = cond (ltb (c .room) 2) 6 0
 
-unfoldable pub Samples-hold : Type 0
-Samples-hold =
+unfoldable pub Adder-samples-hold : Type 0
+Adder-samples-hold =
     (over (λ bs c. length bs ∷ c ∷ []) [] (7 ∷ 8 ∷ 9 ∷ []) ≡ 0 ∷ 7 ∷ 1 ∷ 8 ∷ 2 ∷ 9 ∷ [])
     × (feed adder (7 ∷ 8 ∷ 9 ∷ []) 5 1 ≡ fed 16 2 (1 ∷ 7 ∷ 8 ∷ 8 ∷ []))
     × (ending 2 (7 ∷ 8 ∷ 9 ∷ []) 5 (feed adder (7 ∷ 8 ∷ 9 ∷ []) 5 1) ≡ ListFull)

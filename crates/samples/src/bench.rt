@@ -1,19 +1,19 @@
 // Document 01's bench samples and its errors near at hand. Each is a call with the document's bytes and numbers.
-// Those that it marks P are also proved, in the finder's table of samples; beside.rt runs the same codes and texts beside the naive search.
+// Those that it marks P are also proved, in the finder's table of samples; tests/beside.c runs the same codes and texts beside a naive search.
 ghost use Prim.Native.Nat.{_≤_};
 use crate::Tally;
 use crate::UNTOUCHED;
 use crate::UNWRITTEN;
 use crate::add;
+use crate::answers;
 use crate::at;
-use crate::ending;
+use crate::ended;
 use crate::is_list;
 use crate::narrow;
 use crate::none;
 use crate::part;
 use crate::place_at;
 use crate::same_bytes;
-use crate::value;
 use crate::wide;
 use finder::Feeding;
 use finder::Watch;
@@ -21,20 +21,22 @@ use finder::Watch;
 // Whether the code's sheet is these bytes, and the byte behind them is as before.
 fn has_sheet(code: &[u8], bytes: &[u8]) -> bool {
     let mut sheet = [UNTOUCHED; 32];
-    let n = value(codes::prepare(code, &mut sheet));
-    same_bytes(part(&sheet, 0, n), bytes) & (at(&sheet, n) == UNTOUCHED)
+    let n = bytes.len();
+    answers(sheets::prepare(code, &mut sheet), n as u64)
+        & same_bytes(part(&sheet, 0, n), bytes)
+        & (at(&sheet, n) == UNTOUCHED)
 }
 
 // Whether these are the byte ceiling of a code and the total ceiling for so many bytes.
-fn has_ceilings(code: &[u8], n: usize, byte: usize, total: usize) -> bool {
-    (value(codes::byte_ceiling(code)) == byte)
-        & (value(codes::total_ceiling(narrow(code.len()), narrow(n))) == total)
+fn has_ceilings(code: &[u8], n: usize, byte: u64, total: u64) -> bool {
+    answers(codes::byte_ceiling(code), byte)
+        & answers(codes::total_ceiling(narrow(code.len()), narrow(n)), total)
 }
 
 // Feeds a piece to a watch.
 fn fed(code: &[u8], x: Watch, piece: &[u8], list: &mut [u32]) -> Feeding {
     let mut sheet = [UNTOUCHED; 32];
-    codes::prepare(code, &mut sheet);
+    sheets::prepare(code, &mut sheet);
     finder::feed(&sheet, x, piece, list)
 }
 
@@ -46,7 +48,7 @@ fn finds(code: &[u8], text: &[u8], places: &[u32], compares: u64) -> bool {
     let n = narrow(text.len());
     let found = narrow(places.len());
     let watch = (x.taken == n) & (x.hits == found) & (x.compares == compares);
-    is_list(&list, places) & watch & (f.taken == n) & (f.written == found) & (ending(f) == 0)
+    is_list(&list, places) & watch & (f.taken == n) & (f.written == found) & ended(f, 0, 0)
 }
 
 // The same, and whether these are the byte ceiling and the total ceiling.
@@ -55,8 +57,8 @@ fn finds_within(
     text: &[u8],
     places: &[u32],
     compares: u64,
-    byte: usize,
-    total: usize,
+    byte: u64,
+    total: u64,
 ) -> bool {
     finds(code, text, places, compares) & has_ceilings(code, text.len(), byte, total)
 }
@@ -67,7 +69,7 @@ fn fills_list() -> bool {
     let f = fed(b"aa", Watch::open(), b"aaaa", &mut list);
     let x = f.watch;
     let watch = (x.state == 2) & (x.taken == 2) & (x.hits == 1) & (x.compares == 2);
-    is_list(&list, &[0]) & watch & (f.taken == 2) & (f.written == 1) & (ending(f) == 1)
+    is_list(&list, &[0]) & watch & (f.taken == 2) & (f.written == 1) & ended(f, 0, 1)
 }
 
 // Whether the first places of one list and then those of another are these.

@@ -1,19 +1,18 @@
-// Document 01's refusals 1 to 7, each with its example, others under the same condition and the order of the conditions, and what is accepted on the other side.
-// After a refusal the lent buffer, the lent list and the watch are as before. Refusal 8 is the program's own.
+// Document 01's refusals 1 to 7, each with its example, others under the same condition and the order of the conditions, and what is accepted on the
+// other side. After a refusal the lent buffer, the lent list and the watch are as before. Refusal 8 is the program's own.
 ghost use Prim.Native.Nat.{_≤_};
 use crate::Tally;
 use crate::UNTOUCHED;
 use crate::UNWRITTEN;
 use crate::add;
+use crate::answers;
 use crate::at;
-use crate::ending;
+use crate::ended;
 use crate::feed_in;
 use crate::is_list;
 use crate::none;
 use crate::prepare_in;
-use crate::refusal;
 use crate::same_bytes;
-use crate::value;
 use finder::Watch;
 
 // The sheet of `a`, and one that is wrong in its target.
@@ -24,14 +23,14 @@ const WRONG: [u8; 5] = [1, 97, 0, 1, 2];
 // Whether preparing in so many bytes is refused with a number, and the buffer is as before.
 fn prepare_refuses(number: u32, code: &[u8], room: usize) -> bool {
     let mut buffer = [UNTOUCHED; 767];
-    (refusal(prepare_in(code, &mut buffer, room)) == number)
-        & same_bytes(&buffer, &[UNTOUCHED; 767])
+    let a = prepare_in(code, &mut buffer, room);
+    (a.refusal() == number) & same_bytes(&buffer, &[UNTOUCHED; 767])
 }
 
 // Whether preparing in so many bytes answers a length, and the byte behind it is as before.
 fn prepare_answers(length: usize, code: &[u8], room: usize) -> bool {
     let mut buffer = [UNTOUCHED; 768];
-    (value(prepare_in(code, &mut buffer, room)) == length) & (at(&buffer, length) == UNTOUCHED)
+    answers(prepare_in(code, &mut buffer, room), length as u64) & (at(&buffer, length) == UNTOUCHED)
 }
 
 // A watch of four numbers.
@@ -53,7 +52,7 @@ fn same_watch(x: Watch, y: Watch) -> bool {
 fn feed_refuses(number: u32, sheet: &[u8], x: Watch, piece: &[u8], room: usize) -> bool {
     let mut list = [UNWRITTEN; 2];
     let f = feed_in(sheet, x, piece, &mut list, room);
-    (ending(f) == number)
+    ended(f, number, 0)
         & (f.taken == 0)
         & (f.written == 0)
         & same_watch(f.watch, x)
@@ -64,7 +63,7 @@ fn feed_refuses(number: u32, sheet: &[u8], x: Watch, piece: &[u8], room: usize) 
 fn feed_answers(after: Watch, places: &[u32], sheet: &[u8], x: Watch, piece: &[u8]) -> bool {
     let mut list = [UNWRITTEN; 1];
     let f = finder::feed(sheet, x, piece, &mut list);
-    (ending(f) == 0) & same_watch(f.watch, after) & is_list(&list, places)
+    ended(f, 0, 0) & same_watch(f.watch, after) & is_list(&list, places)
 }
 
 // Refusals of a code or a length: 1, 2 and 3, in this order.
@@ -76,13 +75,13 @@ fn refused_codes(before: Tally) -> Tally
     let mut t = before;
     t = add(t, prepare_refuses(1, b"", 767));
     t = add(t, prepare_refuses(1, b"", 0));
-    t = add(t, refusal(codes::byte_ceiling(b"")) == 1);
-    t = add(t, refusal(codes::total_ceiling(0, 1)) == 1);
+    t = add(t, codes::byte_ceiling(b"").refusal() == 1);
+    t = add(t, codes::total_ceiling(0, 1).refusal() == 1);
     t = add(t, prepare_refuses(2, &many, 767));
     t = add(t, prepare_refuses(2, &many, 0));
-    t = add(t, refusal(codes::byte_ceiling(&many)) == 2);
-    t = add(t, refusal(codes::total_ceiling(256, 1)) == 2);
-    t = add(t, refusal(codes::total_ceiling(4294967295, 0)) == 2);
+    t = add(t, codes::byte_ceiling(&many).refusal() == 2);
+    t = add(t, codes::total_ceiling(256, 1).refusal() == 2);
+    t = add(t, codes::total_ceiling(4294967295, 0).refusal() == 2);
     t = add(t, prepare_refuses(3, b"aab", 10));
     t = add(t, prepare_refuses(3, b"aab", 0));
     add(t, prepare_refuses(3, &many[..255], 766))
@@ -156,12 +155,12 @@ fn accepted_codes() -> Tally
     );
     t = add(t, same_watch(Watch::open(), watch_of(0, 0, 0, 0)));
     t = add(t, prepare_answers(513, &many, 767));
-    t = add(t, value(codes::byte_ceiling(&many)) == 1);
-    t = add(t, value(codes::total_ceiling(255, 255)) == 509);
-    t = add(t, value(codes::total_ceiling(255, 256)) == 510);
+    t = add(t, answers(codes::byte_ceiling(&many), 1));
+    t = add(t, answers(codes::total_ceiling(255, 255), 509));
+    t = add(t, answers(codes::total_ceiling(255, 256), 510));
     t = add(
         t,
-        value(codes::total_ceiling(255, 4294967295)) == 8573091581,
+        answers(codes::total_ceiling(255, 4294967295), 8573091581),
     );
     add(t, prepare_answers(10, b"aab", 11))
 }

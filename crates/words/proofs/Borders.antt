@@ -8,7 +8,7 @@ use lib.Dec.{ltb}
 use lib.ListN.{length, getD, take, drop}
 use lib.Seq.{take-suc, take-take, getD-take, getD-drop, length-take-le}
 use borrow.Author.Tests.{ltb-true, lt-ltb}
-use Rattle.words.specs.Words.{byte, ends-with, is-border, border-of}
+use Rattle.words.specs.Words.{byte, suffix, ends-with, is-border, border-of}
 use Rattle.words.proofs.Tests.{and-left, and-right, and-both, same-test}
 use Rattle.words.proofs.Lists.{take-drop}
 use Rattle.words.proofs.Ends.{Ends, ends-is, ends-test, ends-zero, ends-within, ends-without, ends-shorter}
@@ -66,7 +66,7 @@ longest-is w p h = largest-is (is-border w p) (Border w p) (border-is w p) (bord
 
 -- BYTES: those of a border stand again at the end, so the first p bytes have the period p - b
 pub border-byte : (w : List ℕ) (p b : ℕ) → p ≤ length w → Border w p b → (i : ℕ) → i < b → byte w i ≡ byte w (i + (p - b))
-unfolding byte
+unfolding byte suffix
 border-byte w p b h a i l =
     let bp : b < p = a .below in
     let at : (length (take p w) - b) + i ≡ i + (p - b) = omega (arith, length-take-le p w h) in
@@ -79,6 +79,7 @@ border-byte w p b h a i l =
 -- OVERLAP: a border y of x with x ≤ 2y is followed by a third one as far below, and with the same byte behind it
 module _ (w : List ℕ) (x y : ℕ) (fits : x ≤ length w) (a : Border w x y) (near : x ≤ y + y) where
   pub overlap-border : Ends (take y w) w (y + y - x)
+  unfolding suffix
   overlap-border =
       let yx : y < x = a .below in
       let n : length (take y w) ≡ y = length-take-le y w (omega arith) in

@@ -1,7 +1,7 @@
 -- The largest number with a property: a record, its uniqueness, and the definitions that search for one. Assumes nothing.
 use mathlib.Core.Path.{_≡_, refl}
 use mathlib.Core.Bool.{Bool, true, false, cond}
-use mathlib.Core.List.{List}
+use mathlib.Core.List.{List, []}
 use mathlib.Core.Logic.{_≢_}
 use Prim.Native.Nat.{ℕ, zero, suc, _≤_, _<_}
 use native.Mathlib.Omega.{arith}
@@ -25,7 +25,8 @@ largest-one P l x y u v =
     (λ (a : y < x). absurd (v .none x a (u .bound) (u .holds)))
 
 -- where two properties agree up to l, and a third number bounds both
-pub largest-same : (P Q : ℕ → Type 0) (l x : ℕ) → ((y : ℕ) → y ≤ l → P y → Q y) → ((y : ℕ) → y ≤ l → Q y → P y) → Largest P l x → Largest Q l x
+pub largest-same : (P Q : ℕ → Type 0) (l x : ℕ) → ((y : ℕ) → y ≤ l → P y → Q y) → ((y : ℕ) → y ≤ l → Q y → P y) →
+    Largest P l x → Largest Q l x
 largest-same P Q l x f g u =
     record { bound = u .bound; holds = f x (u .bound) (u .holds); none = λ y a b q. u .none y a b (g y b q) }
 
@@ -57,6 +58,9 @@ state-is w ts = largest-is (ends-with ts w) (Ends ts w) (ends-is ts w) (ends-tes
 
 pub state-read : (w ts : List ℕ) → state-of w ts ≤ length ts
 state-read w ts = state-is w ts .holds .fits
+
+pub state-nil : (w : List ℕ) → state-of w [] ≡ 0
+state-nil w = omega (arith, state-read w [])
 
 -- it is the whole word exactly where the text ends with the whole word
 pub state-whole : (w ts : List ℕ) → eqb (state-of w ts) (length w) ≡ ends-with ts w (length w)

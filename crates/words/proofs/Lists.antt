@@ -1,4 +1,4 @@
--- Lists: equality as a test, membership as a test, facts of every element, and one element more at the end. Assumes nothing.
+-- Lists: equality as a test, membership as a test, facts of every element, one element more at the end, and the last n elements. Assumes nothing.
 use mathlib.Core.Path.{_≡_, refl, sym, ap, _∙_}
 use mathlib.Core.Bool.{true, false, _||_}
 use mathlib.Core.Logic.{_≢_}
@@ -6,10 +6,10 @@ use mathlib.Core.List.{List, [], _∷_, _++_}
 use Prim.Native.Nat.{ℕ, zero, suc, _+_, _-_, _≤_, _<_}
 use native.Mathlib.Omega.{arith}
 use lib.Dec.{eqb}
-use lib.ListN.{length, getD, take, drop, length-append}
-use lib.Seq.{take-at, getD-at, take-add, drop-at, length-take-le}
+use lib.ListN.{length, getD, take, drop, length-append, length-drop, drop-of-length-le}
+use lib.Seq.{take-at, getD-at, take-add, drop-at, drop-drop, drop-append-le, length-take-le}
 use borrow.Author.Tests.{eqb-true, eqb-false, eq-eqb, ne-eqb}
-use Rattle.words.specs.Words.{member, Every, same}
+use Rattle.words.specs.Words.{member, Every, same, suffix, in-front}
 use Rattle.words.proofs.Tests.{by-test, never-both, and-left, and-right, and-both}
 
 -- EQUALITY
@@ -103,3 +103,46 @@ module _ (xs ys : List ℕ) (a b : ℕ) (e : xs ++ (a ∷ []) ≡ ys ++ (b ∷ [
 pub take-drop : (i j : ℕ) (l : List ℕ) → i ≤ length l → take j (drop i l) ≡ drop i (take (i + j) l)
 take-drop i j l h =
     sym (ap (drop i) (take-add i j l) ∙ drop-at (take i l) (take j (drop i l)) i (length-take-le i l h))
+
+-- what is the same from k on is the same from any later place on
+pub drop-more : (k l : ℕ) (a b : List ℕ) → k ≤ l → drop k a ≡ drop k b → drop l a ≡ drop l b
+drop-more k l a b h e =
+    let at : l ≡ k + (l - k) = omega arith in
+    rw (at, ← drop-drop (l - k) k a, ← drop-drop (l - k) k b) (ap (drop (l - k)) e)
+
+-- THE LAST n
+pub length-suffix : (n : ℕ) (ts : List ℕ) → n ≤ length ts → length (suffix n ts) ≡ n
+unfolding suffix
+length-suffix n ts h = omega (arith, length-drop (length ts - n) ts)
+
+pub suffix-none : (ts : List ℕ) → suffix 0 ts ≡ []
+unfolding suffix
+suffix-none ts = let all : length ts ≤ length ts - 0 = omega arith in drop-of-length-le ts all
+
+pub suffix-whole : (n : ℕ) (ts : List ℕ) → length ts ≡ n → suffix n ts ≡ ts
+unfolding suffix
+suffix-whole n ts e = let at : length ts - n ≡ 0 = omega arith in ap (λ (k : ℕ). drop k ts) at
+
+pub suffix-suffix : (m n : ℕ) (ts : List ℕ) → m ≤ n → n ≤ length ts → suffix m (suffix n ts) ≡ suffix m ts
+unfolding suffix
+suffix-suffix m n ts h l =
+    let at : (length ts - n) + (length (drop (length ts - n) ts) - m) ≡ length ts - m = omega (arith, length-drop (length ts - n) ts) in
+    drop-drop (length (drop (length ts - n) ts) - m) (length ts - n) ts ∙ ap (λ (k : ℕ). drop k ts) at
+
+pub suffix-snoc : (n : ℕ) (ts : List ℕ) (c : ℕ) → n ≤ length ts → suffix (suc n) (ts ++ (c ∷ [])) ≡ suffix n ts ++ (c ∷ [])
+unfolding suffix
+suffix-snoc n ts c h =
+    let at : length (ts ++ (c ∷ [])) - suc n ≡ length ts - n = omega (arith, length-snoc ts c) in
+    ap (λ (k : ℕ). drop k (ts ++ (c ∷ []))) at ∙ drop-append-le (length ts - n) ts (c ∷ []) (omega arith)
+
+-- the last n of the first i + n are the first n from i on
+pub suffix-take : (i n : ℕ) (ts : List ℕ) → i + n ≤ length ts → suffix n (take (i + n) ts) ≡ take n (drop i ts)
+unfolding suffix
+suffix-take i n ts h =
+    let at : length (take (i + n) ts) - n ≡ i = omega (arith, length-take-le (i + n) ts h) in
+    ap (λ (k : ℕ). drop k (take (i + n) ts)) at ∙ sym (take-drop i n ts (omega arith))
+
+-- WRITTEN IN FRONT: as long as what was written, at least
+pub in-front-long : (new old : List ℕ) → length new ≤ length (in-front new old)
+unfolding in-front
+in-front-long new old = omega (arith, length-append new (drop (length new) old))

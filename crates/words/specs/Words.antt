@@ -1,6 +1,6 @@
 -- Words: lists of bytes, the starts that a text ends with, and borders. A word has any length. Assumes nothing: these are definitions.
 use mathlib.Core.Bool.{Bool, true, false, _&&_, _||_, cond}
-use mathlib.Core.List.{List, [], _∷_}
+use mathlib.Core.List.{List, [], _∷_, _++_}
 use Prim.Native.Nat.{ℕ, zero, suc, _-_, _<_}
 use lib.Dec.{ltb, leb, eqb}
 use lib.ListN.{length, getD, take, drop}
@@ -35,9 +35,13 @@ same [] (y ∷ ys) = false
 same (x ∷ xs) [] = false
 same (x ∷ xs) (y ∷ ys) = eqb x y && same xs ys
 
+-- the last n bytes of a text
+unfoldable pub suffix : (n : ℕ) → (text : List ℕ) → List ℕ
+suffix n ts = drop (length ts - n) ts
+
 -- whether a text ends with the first p bytes of w
 unfoldable pub ends-with : (text w : List ℕ) → (p : ℕ) → Bool
-ends-with ts w p = leb p (length ts) && same (drop (length ts - p) ts) (take p w)
+ends-with ts w p = leb p (length ts) && same (suffix p ts) (take p w)
 
 -- BORDER: a shorter start of the first p bytes of w that is also their end
 unfoldable pub is-border : (w : List ℕ) → (p b : ℕ) → Bool
@@ -55,3 +59,7 @@ state-of w ts = largest (ends-with ts w) (length w)
 -- the longest border of the first p bytes, for p of 1 or more
 unfoldable pub border-of : (w : List ℕ) → (p : ℕ) → ℕ
 border-of w p = largest (is-border w p) (p - 1)
+
+-- a lent list with another written over its start
+unfoldable pub in-front : (new old : List ℕ) → List ℕ
+in-front new old = new ++ drop (length new) old

@@ -4,7 +4,7 @@ use Prim.Native.Nat.{ℕ, _*_, _≤_, _<_}
 use native.Mathlib.Omega.{arith}
 use native.Mathlib.Nat.{mul-le-mul-right}
 use Rattle.automaton.specs.Ceilings.{total-ceiling}
-use Rattle.codes.specs.Codes.{length-refusal}
+use Rattle.codes.specs.Codes.{length-refusal, longest-code}
 use Rattle.codes.specs.Entry.{total-answer}
 use Rattle.codes.proofs.Refusals.{answered-value, answered-refusal, length-bounds}
 use borrow.Author.Needs.{needs}
@@ -12,7 +12,7 @@ use Rattle.codes.proofs.total_ceiling.Statement.{statement}
 use Rattle.codes.proofs.total_ceiling.Tie as tie
 
 -- past the refusals the length is a code's
-none : (c : tie.Else1) → length-refusal (c .before .before .args .m) ≡ 0
+none : (c : tie.Else1) → length-refusal longest-code (c .before .before .args .m) ≡ 0
 none c = sym (c .before .length-refusal .ensures) ∙ c .if1 .left
 
 -- a factor of ten bits and one of thirty-two
@@ -20,6 +20,9 @@ product-fits : {k n : ℕ} → k < 1024 → n < 4294967296 → k * n < 184467440
 product-fits {k} {n} a b =
     let bound : k * n ≤ 1024 * n = mul-le-mul-right n (omega arith) in
     omega arith
+
+cast-length-refusal : tie.Need-cast-length-refusal
+cast-length-refusal c = search needs
 
 length-refusal-requires : tie.Need-length-refusal-requires
 length-refusal-requires c κs = search needs
@@ -29,17 +32,17 @@ unfolding total-answer
 returns c =
     cc (answered-refusal (c .before .length-refusal .result) (total-ceiling (c .before .before .args .m) (c .before .before .args .n)) (c .if1 .taken))
 
-mul-t7 : tie.Need-mul-t7
-mul-t7 c = search needs
+mul-total : tie.Need-mul-total
+mul-total c = search needs
 
-sub-t8 : tie.Need-sub-t8
-sub-t8 c = omega (arith, length-bounds _ (none c))
+sub-total : tie.Need-sub-total
+sub-total c = omega (arith, length-bounds _ _ (none c))
 
-mul-t10 : tie.Need-mul-t10
-mul-t10 c = let bounds = length-bounds _ (none c) in record { fits = product-fits (omega arith) (omega arith) }
+mul-total-2 : tie.Need-mul-total-2
+mul-total-2 c = let bounds = length-bounds _ _ (none c) in record { fits = product-fits (omega arith) (omega arith) }
 
-div-t11 : tie.Need-div-t11
-div-t11 c = omega (arith, length-bounds _ (none c))
+div-total : tie.Need-div-total
+div-total c = omega (arith, length-bounds _ _ (none c))
 
 returns-2 : tie.Need-returns-2
 unfolding total-answer total-ceiling
@@ -47,4 +50,4 @@ returns-2 c = sym (answered-value _ _ (none c))
 
 pub total-ceiling-spec : {M : Type 1} → statement M
 total-ceiling-spec =
-    tie.close (tie.spec length-refusal-requires returns mul-t7 sub-t8 mul-t10 div-t11 returns-2)
+    tie.close (tie.spec cast-length-refusal length-refusal-requires returns mul-total sub-total mul-total-2 div-total returns-2)

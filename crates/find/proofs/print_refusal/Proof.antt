@@ -16,16 +16,16 @@ put-refused-requires c κs = search needs
 array-share-prefix-out : tie.Need-array-share-prefix-out
 array-share-prefix-out c = search needs
 
-slice-aggregate-print : tie.Need-slice-aggregate-print
-slice-aggregate-print c = sym (length-take-le _ _ (search needs))
+slice-aggregate-send : tie.Need-slice-aggregate-send
+slice-aggregate-send c = sym (length-take-le _ _ (search needs))
 
-print-requires : tie.Need-print-requires
-print-requires c κs = search needs
+send-requires : tie.Need-send-requires
+send-requires c κs = search needs
 
 returns : tie.Need-returns
 returns c =
     let w = c .before .before .before .before .put-refused .ensures in
-    rw (written-all (w .0) (omega (arith, w .1)) .0) at (c .print .ensures)
+    rw (written-all (w .0) (omega (arith, w .1)) .0) at (c .send .ensures)
 
 pub print-refusal-spec : {M : Type 1} → statement M
 print-refusal-spec =
@@ -34,6 +34,6 @@ print-refusal-spec =
     slice-aggregate-put-refused
     put-refused-requires
     array-share-prefix-out
-    slice-aggregate-print
-    print-requires
+    slice-aggregate-send
+    send-requires
     returns)

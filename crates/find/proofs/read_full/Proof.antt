@@ -5,7 +5,7 @@ use native.Mathlib.Omega.{arith}
 use borrow.Author.Needs.{needs}
 use lib.ListN.{length, take}
 use Rattle.find.specs.Receipts.{Came, Moved}
-use Rattle.find.proofs.Moving.{moved-none, came-join, read-on, read-none}
+use Rattle.find.proofs.Moving.{moved-none, came-join, came-behind, none-behind}
 use Rattle.find.proofs.read_full.Statement.{statement}
 use Rattle.find.proofs.read_full.Tie as tie
 
@@ -14,6 +14,10 @@ Inv-loop came₀ buffer₀ n₀ came buffer n = (n ≤ length buffer) × (length
 
 abbrev μ-loop : tie.MeasureT-loop
 μ-loop came₀ buffer₀ n₀ came buffer n = length buffer - n
+
+-- from behind a read back to the turn's start
+abbrev at-turn : tie.After-read-some Inv-loop μ-loop → tie.At-loop Inv-loop μ-loop
+at-turn r = r .before .before .before .before
 
 loop-holds : tie.Need-loop-holds Inv-loop μ-loop
 loop-holds c = (zero-le, refl, moved-none Came _)
@@ -39,22 +43,32 @@ same-length c = search needs
 returns : tie.Need-returns Inv-loop μ-loop
 returns c =
     let g = c .before .before in
-    let r = rw (g .got .given .1) at (g .before .before .before .before .read-some .ensures) in
-    let kept = g .before .before .before .before .before .before .before .before .loop .inv in
-    record { within = search needs; came = read-none _ _ _ _ _ (kept .0) (kept .2) r (c .if1 .taken); ends = λ _. r .ends (omega (arith, c .if1 .taken)) }
+    let b = g .before .before .before .before in
+    let r = rw (g .got .given .1) at (b .read-some .ensures) in
+    let v = at-turn b .loop .inv in
+    record { within = search needs; came = none-behind _ _ _ _ _ (v .0) (v .2) r (c .if1 .taken); ends = λ _. r .ends (omega (arith, c .if1 .taken)) }
 
 add-n : tie.Need-add-n Inv-loop μ-loop
-add-n c = let r = rw (c .before .before .got .given .1) at (c .before .before .before .before .before .before .read-some .ensures) in search needs
+add-n c =
+    let g = c .before .before in
+    let b = g .before .before .before .before in
+    let r = rw (g .got .given .1) at (b .read-some .ensures) in
+    search needs
 
 loop-less : tie.Need-loop-less Inv-loop μ-loop
-loop-less c = let r = rw (c .before .before .got .given .1) at (c .before .before .before .before .before .before .read-some .ensures) in search needs
+loop-less c =
+    let g = c .before .before in
+    let b = g .before .before .before .before in
+    let r = rw (g .got .given .1) at (b .read-some .ensures) in
+    search needs
 
 loop-again : tie.Need-loop-again Inv-loop μ-loop
 loop-again c =
     let g = c .before .before in
-    let r = rw (g .got .given .1) at (g .before .before .before .before .read-some .ensures) in
-    let kept = g .before .before .before .before .before .before .before .before .loop .inv in
-    (search needs, search needs, read-on _ _ _ _ _ (kept .0) (kept .2) r)
+    let b = g .before .before .before .before in
+    let r = rw (g .got .given .1) at (b .read-some .ensures) in
+    let v = at-turn b .loop .inv in
+    (search needs, search needs, came-behind _ _ _ _ _ (v .0) (v .2) r)
 
 enum-told : tie.Need-enum-told Inv-loop μ-loop
 enum-told c = search needs
@@ -66,7 +80,7 @@ returns-2 : tie.Need-returns-2 Inv-loop μ-loop
 returns-2 c =
     let r = c .before .before .before .before in
     let t = rw (c .enum-told .given .1) at (r .read-some .ensures) in
-    (t .0, came-join (r .before .before .before .before .loop .inv .2) (t .1))
+    (t .0, came-join (at-turn r .loop .inv .2) (t .1))
 
 same-length-3 : tie.Need-same-length-3 Inv-loop μ-loop
 same-length-3 c = search needs

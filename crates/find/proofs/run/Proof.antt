@@ -1,6 +1,7 @@
 -- `run` meets its contract. By whether the first line could be read, and whether it is refused. Assumes nothing.
 use mathlib.Core.Path.{refl}
 use borrow.Author.Tests.{not-true, not-false}
+use Rattle.sheets.specs.Sheet.{sheet-room}
 use Rattle.find.specs.Receipts.{unmoved}
 use Rattle.find.proofs.Moving.{is-told}
 use Rattle.find.proofs.Running.{ran-not, ran-refused, ran-searched}
@@ -28,6 +29,7 @@ print-refusal-requires : tie.Need-print-refusal-requires
 print-refusal-requires c κs = search needs
 
 returns-2 : tie.Need-returns-2
+unfolding sheet-room
 returns-2 c =
     let p = c .before .before .before .before in
     let l = p .before .before .before .before .before in
@@ -42,6 +44,7 @@ search-requires : tie.Need-search-requires
 search-requires c κs = search needs
 
 returns-3 : tie.Need-returns-3
+unfolding sheet-room
 returns-3 c =
     let p = c .before .before .before .before .before .before in
     let l = p .before .before .before .before .before in

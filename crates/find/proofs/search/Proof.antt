@@ -13,6 +13,10 @@ Inv-loop sheet came₀ sent₀ buffer₀ places₀ out₀ scan₀ came sent buff
 abbrev μ-loop : tie.MeasureT-loop
 μ-loop sheet came₀ sent₀ buffer₀ places₀ out₀ scan₀ came sent buffer places out scan = turns-left (scan .more) came
 
+-- from behind a piece back to the turn's start
+abbrev at-turn : tie.After-search-piece Inv-loop μ-loop → tie.In-loop Inv-loop μ-loop
+at-turn c = c .before .before .before .before .before .before .before
+
 open-requires : tie.Need-open-requires Inv-loop μ-loop
 open-requires c κs = search needs
 
@@ -23,11 +27,11 @@ search-piece-requires : tie.Need-search-piece-requires Inv-loop μ-loop
 search-piece-requires c κs = search needs
 
 loop-less : tie.Need-loop-less Inv-loop μ-loop
-loop-less c = fewer-left _ _ _ _ (c .before .before .before .before .before .before .before .loop-test .taken) (c .search-piece .ensures .1)
+loop-less c = fewer-left _ _ _ _ (at-turn c .loop-test .taken) (c .search-piece .ensures .1)
 
 loop-again : tie.Need-loop-again Inv-loop μ-loop
 loop-again c =
-    let t = c .before .before .before .before .before .before .before in
+    let t = at-turn c in
     search-turned (t .before .loop .inv) (t .loop-test .taken) (c .search-piece .ensures .0)
 
 returns : tie.Need-returns Inv-loop μ-loop

@@ -1,6 +1,6 @@
 -- `search_piece` meets its contract. By what the read brought. Assumes nothing.
 use native.Mathlib.Omega.{arith}
-use Rattle.find.specs.Printed.{room}
+use Rattle.find.specs.Printed.{print-room}
 use Rattle.find.proofs.Searching.{piece-read, search-failed}
 use borrow.Author.Needs.{needs}
 use Rattle.find.proofs.search_piece.Statement.{statement}
@@ -13,7 +13,7 @@ enum-known-got : tie.Need-enum-known-got
 enum-known-got c = search needs
 
 print-piece-requires : tie.Need-print-piece-requires
-unfolding room
+unfolding print-room
 print-piece-requires c κs =
     let g = c .before .before .before .before .before .before in
     let r = rw (g .got .given .1) at (g .before .before .read-full .ensures) in

@@ -3,7 +3,7 @@ use mathlib.Core.Path.{_∙_, sym}
 use borrow.Author.Needs.{needs}
 use lib.ListN.{length}
 use Rattle.finder.specs.Entry.{lent}
-use Rattle.finder.proofs.Refusing.{none-refused, says-refused, says-took}
+use Rattle.finder.proofs.Refusing.{none-ready, says-refused, says-took}
 use Rattle.finder.proofs.feed.Statement.{statement}
 use Rattle.finder.proofs.feed.Tie as tie
 
@@ -19,7 +19,7 @@ returns c =
 take-bytes-requires : tie.Need-take-bytes-requires
 take-bytes-requires c κs =
     let a = c .before .before .before .before .before .before .args in
-    none-refused (a .sheet .now) (a .watch) (length (a .piece .now)) (length (a .places .now))
+    none-ready (a .sheet .now) (a .watch) (length (a .piece .now)) (length (a .places .now))
     (sym (c .before .before .feed-refusal .ensures) ∙ c .before .if1 .left)
 
 same-length : tie.Need-same-length

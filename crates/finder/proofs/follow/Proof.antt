@@ -1,118 +1,125 @@
 -- `follow` meets its contract. The loop keeps that the labels compared so far decide nothing yet: what is left of them is what the step is. Assumes nothing.
-use mathlib.Core.Path.{_∙_, sym}
-use Prim.Native.Nat.{zero-le, _-_}
+use mathlib.Core.Path.{_≡_, _∙_, sym}
+use Prim.Native.Nat.{_+_, _-_, _≤_, _<_}
+use native.Mathlib.Numerals.{add-one}
 use native.Mathlib.Omega.{arith}
 use borrow.Author.Needs.{needs}
-use Rattle.finder.proofs.Reading.{Scan, scan-start, scan-end, scan-room, scan-hit, scan-on, room, read-size}
+use lib.ListN.{length, getD}
+use Rattle.automaton.specs.Arrows.{arrows, arrows-below, all-targets}
+use Rattle.automaton.proofs.Counts.{below-suc}
+use Rattle.codes.specs.Codes.{longest-code}
+use Rattle.sheets.specs.Sheet.{target-place, named}
+use Rattle.sheets.proofs.Sheets.{begins-bounds}
+use Rattle.finder.proofs.Comparing.{Comparing, comparing-start, comparing-end, next-listed, next-inside, comparing-found, comparing-next}
 use Rattle.finder.proofs.follow.Statement.{statement}
 use Rattle.finder.proofs.follow.Tie as tie
 
 abbrev Inv-loop : tie.InvT-loop
-Inv-loop sheet p byte m end i₀ cost₀ i cost = Scan sheet p byte m end i cost
+Inv-loop sheet p byte m end at₀ cost₀ at cost =
+    let w = named sheet in
+    Comparing w p byte cost
+    × (m ≡ length w)
+    × (end ≡ target-place m (arrows-below w p + arrows w p))
+    × (at ≡ target-place m (arrows-below w p + cost))
 
 abbrev μ-loop : tie.MeasureT-loop
-μ-loop sheet p byte m end i₀ cost₀ i cost = end - i
+μ-loop sheet p byte m end at₀ cost₀ at cost = end - at
 
-shared-slice-read-wide : tie.Need-shared-slice-read-wide Inv-loop μ-loop
-shared-slice-read-wide c = omega (arith, room (c .before .before .args .sheet .now) (c .before .before .pre .0) 0 zero-le)
+-- what the loop keeps of the cost
+few : (c : tie.At-loop Inv-loop μ-loop) → c .loop .cost ≤ longest-code
+few c = let s = c .loop .inv .0 in omega (arith, s .few, s .within)
 
-wide-requires : tie.Need-wide-requires Inv-loop μ-loop
-wide-requires c κs = search needs
+-- IN A TURN a label is left: its target stands there, and is one of the code
+going : (c : tie.In-loop Inv-loop μ-loop) → let a = c .before .before .before .before .before .before .args in
+    c .before .loop .cost < arrows (named (a .sheet .now)) (a .p)
+going c = let v = c .before .loop .inv in omega (arith, v .2, v .3, c .loop-test .taken)
 
-mul-end : tie.Need-mul-end Inv-loop μ-loop
-mul-end c = search needs
+stands : (c : tie.After-target Inv-loop μ-loop) → let a = c .before .before .before .before .before .before .before .args in
+    let w = named (a .sheet .now) in c .target .result ≡ getD (all-targets w) (arrows-below w (a .p) + c .before .before .loop .cost) 0
+stands c = let v = c .before .before .loop .inv in c .target .ensures _ (omega (arith, v .1, v .3))
 
-add-end : tie.Need-add-end Inv-loop μ-loop
-add-end c = search needs
+inside : (c : tie.After-target Inv-loop μ-loop) → let a = c .before .before .before .before .before .before .before .args in
+    (1 ≤ c .target .result) × (c .target .result ≤ length (named (a .sheet .now)))
+inside c = next-inside (c .before .before .loop .inv .0) (going (c .before)) (c .target .result) (stands c)
 
-add-wide : tie.Need-add-wide Inv-loop μ-loop
-add-wide c = search needs
+code-length-requires : tie.Need-code-length-requires Inv-loop μ-loop
+code-length-requires c κs = c .before .pre .0
 
-add-wide-2 : tie.Need-add-wide-2 Inv-loop μ-loop
-add-wide-2 c = search needs
+add-targets-below : tie.Need-add-targets-below Inv-loop μ-loop
+add-targets-below c = let q = c .before .before .pre in omega (arith, q .2, begins-bounds _ (q .0))
 
-shared-slice-read-wide-2 : tie.Need-shared-slice-read-wide-2 Inv-loop μ-loop
-shared-slice-read-wide-2 c =
-    let a = c .before .before .before .before .args in
-    let q = c .before .before .before .before .pre in
-    omega (arith, c .before .wide .ensures .0, read-size (a .sheet .now) (q .0), room (a .sheet .now) (q .0) (a .p) (q .2))
+targets-below-requires : tie.Need-targets-below-requires Inv-loop μ-loop
+targets-below-requires c κs =
+    let q = c .before .before .pre in
+    let m = c .code-length .ensures .0 in
+    (q .0, m, omega arith, omega (arith, q .2, m))
 
-wide-requires-2 : tie.Need-wide-requires-2 Inv-loop μ-loop
-wide-requires-2 c κs = search needs
-
-add-end-2 : tie.Need-add-end-2 Inv-loop μ-loop
-add-end-2 c = search needs
-
-mul-i : tie.Need-mul-i Inv-loop μ-loop
-mul-i c = search needs
-
-add-i : tie.Need-add-i Inv-loop μ-loop
-add-i c = search needs
-
-add-wide-3 : tie.Need-add-wide-3 Inv-loop μ-loop
-add-wide-3 c = search needs
-
-shared-slice-read-wide-3 : tie.Need-shared-slice-read-wide-3 Inv-loop μ-loop
-shared-slice-read-wide-3 c =
-    let a = c .before .before .before .before .before .before .args in
-    let q = c .before .before .before .before .before .before .pre in
-    omega (arith, c .before .before .before .wide .ensures .0, read-size (a .sheet .now) (q .0), room (a .sheet .now) (q .0) (a .p) (q .2))
-
-wide-requires-3 : tie.Need-wide-requires-3 Inv-loop μ-loop
-wide-requires-3 c κs = search needs
-
-add-i-2 : tie.Need-add-i-2 Inv-loop μ-loop
-add-i-2 c = search needs
+targets-below-requires-2 : tie.Need-targets-below-requires-2 Inv-loop μ-loop
+targets-below-requires-2 c κs =
+    let q = c .before .before .before .pre in
+    let m = c .before .code-length .ensures .0 in
+    (q .0, m, q .1, omega (arith, q .2, m))
 
 loop-holds : tie.Need-loop-holds Inv-loop μ-loop
 loop-holds c =
-    let a = c .before .before .before .before .before .before .before .args in
-    let q = c .before .before .before .before .before .before .before .pre in
-    let m = c .before .before .before .before .wide in
-    let end = c .before .before .wide2 in
-    scan-start (a .p) (a .byte) (m .result) (c .wide3 .result) (end .result) (q .0) (q .1) (q .2) (m .ensures .0) (c .wide3 .ensures .0) (end .ensures .0) (end .ensures .1)
+    let q = c .before .before .before .before .pre in
+    let a = c .before .before .before .before .args in
+    let end = rw add-one at (c .before .targets-below .ensures) in (
+      comparing-start _ _ (q .2) (begins-bounds _ (q .0) .1),
+      c .before .before .code-length .ensures .0,
+      omega (arith, end, below-suc (named (a .sheet .now)) (a .p)),
+      omega (arith, c .targets-below2 .ensures),
+    )
 
-shared-slice-read-wide-4 : tie.Need-shared-slice-read-wide-4 Inv-loop μ-loop
-shared-slice-read-wide-4 c = omega (arith, scan-room (c .before .before .loop .inv) (c .before .loop-test .taken) .0)
-
-wide-requires-4 : tie.Need-wide-requires-4 Inv-loop μ-loop
-wide-requires-4 c κs = search needs
+target-requires : tie.Need-target-requires Inv-loop μ-loop
+target-requires c κs =
+    let v = c .before .loop .inv in
+    (c .before .before .before .before .before .before .pre .0, omega (arith, v .1, v .3, next-listed (v .0) (going c)))
 
 add-cost : tie.Need-add-cost Inv-loop μ-loop
-add-cost c = search needs
+add-cost c = omega (arith, few (c .before .before))
 
-shared-slice-read-if1 : tie.Need-shared-slice-read-if1 Inv-loop μ-loop
-shared-slice-read-if1 c =
-    omega
-    (arith, c .before .wide4 .ensures .0, scan-room (c .before .before .before .before .loop .inv) (c .before .before .before .loop-test .taken) .1)
+label-requires : tie.Need-label-requires Inv-loop μ-loop
+label-requires c κs =
+    let n = inside c in
+    (c .before .before .before .before .before .before .before .pre .0, n .0, n .1)
 
-cast-t22 : tie.Need-cast-t22 Inv-loop μ-loop
-cast-t22 c = search needs
-
-cast-t23 : tie.Need-cast-t23 Inv-loop μ-loop
-cast-t23 c = search needs
+cast-target : tie.Need-cast-target Inv-loop μ-loop
+cast-target c =
+    let s = c .before .before in
+    omega (arith, inside s .1, begins-bounds _ (s .before .before .before .before .before .before .before .pre .0) .1)
 
 returns : tie.Need-returns Inv-loop μ-loop
 returns c =
-    scan-hit (c .before .before .before .before .before .loop .inv) (c .before .before .before .before .loop-test .taken)
-    (c .before .before .wide4 .result) (c .before .before .wide4 .ensures .0) (c .if1 .taken)
+    let s = c .before .before in
+    comparing-found (s .before .before .loop .inv .0) (going (s .before)) (s .target .result) (stands s) (sym (c .before .label .ensures) ∙ c .if1 .taken)
 
-add-i-3 : tie.Need-add-i-3 Inv-loop μ-loop
-add-i-3 c = search needs
+add-at : tie.Need-add-at Inv-loop μ-loop
+add-at c = search needs
 
 loop-less : tie.Need-loop-less Inv-loop μ-loop
 loop-less c = search needs
 
 loop-again : tie.Need-loop-again Inv-loop μ-loop
 loop-again c =
-    scan-on (c .before .before .before .before .before .loop .inv) (c .before .before .before .before .loop-test .taken)
-    (c .before .before .wide4 .result) (c .before .before .wide4 .ensures .0) (c .if1 .left)
+    let s = c .before .before in
+    let v = s .before .before .loop .inv in (
+      comparing-next (v .0) (going (s .before)) (s .target .result) (stands s) (λ e. c .if1 .left (c .before .label .ensures ∙ e)),
+      v .1,
+      v .2,
+      omega (arith, v .3),
+    )
 
 forward-step-requires : tie.Need-forward-step-requires Inv-loop μ-loop
-forward-step-requires c κs = search needs
+forward-step-requires c κs =
+    let q = c .before .before .before .before .before .before .pre in
+    let m = c .before .before .before .before .code-length .ensures .0 in
+    (q .0, m, omega (arith, q .2, m), few (c .before))
 
 returns-2 : tie.Need-returns-2 Inv-loop μ-loop
-returns-2 c = c .forward-step .ensures ∙ sym (scan-end (c .before .before .loop .inv) (c .before .loop-test .left))
+returns-2 c =
+    let v = c .before .before .loop .inv in
+    c .forward-step .ensures ∙ sym (comparing-end (v .0) (omega (arith, v .2, v .3, c .before .loop-test .left)))
 
 pub follow-spec : {M : Type 1} → statement M
 follow-spec =
@@ -120,30 +127,17 @@ follow-spec =
     (tie.spec
     Inv-loop
     μ-loop
-    shared-slice-read-wide
-    wide-requires
-    mul-end
-    add-end
-    add-wide
-    add-wide-2
-    shared-slice-read-wide-2
-    wide-requires-2
-    add-end-2
-    mul-i
-    add-i
-    add-wide-3
-    shared-slice-read-wide-3
-    wide-requires-3
-    add-i-2
+    code-length-requires
+    add-targets-below
+    targets-below-requires
+    targets-below-requires-2
     loop-holds
-    shared-slice-read-wide-4
-    wide-requires-4
+    target-requires
     add-cost
-    shared-slice-read-if1
-    cast-t22
-    cast-t23
+    label-requires
+    cast-target
     returns
-    add-i-3
+    add-at
     loop-less
     loop-again
     forward-step-requires

@@ -1,58 +1,68 @@
--- `forward_step` meets its contract. Read off the sheet, byte p + 1 of the buffer is the forward label. Assumes nothing.
-use mathlib.Core.Path.{_∙_, sym}
+-- `forward_step` meets its contract. The forward label of p is that of target p + 1. Assumes nothing.
+use mathlib.Core.Path.{_≡_, _∙_, sym}
+use mathlib.Core.List.{List}
+use Prim.Native.Nat.{ℕ, _+_}
+use native.Mathlib.Numerals.{add-one}
 use native.Mathlib.Omega.{arith}
 use borrow.Author.Needs.{needs}
-use Rattle.codes.specs.Sheet.{named}
-use Rattle.finder.proofs.Reading.{read-code, room, forward-hit, forward-miss, forward-none}
+use Rattle.words.specs.Words.{byte}
+use Rattle.automaton.specs.Arrows.{label}
+use Rattle.automaton.proofs.Targets.{label-suc}
+use Rattle.automaton.proofs.Steps.{forward-on, forward-off, forward-past}
+use Rattle.sheets.specs.Sheet.{named}
+use Rattle.sheets.proofs.Sheets.{begins-bounds}
 use Rattle.finder.proofs.forward_step.Statement.{statement}
 use Rattle.finder.proofs.forward_step.Tie as tie
 
-add-if2 : tie.Need-add-if2
-add-if2 c = search needs
+forward-label : (w : List ℕ) (p : ℕ) → label w (p + 1) ≡ byte w p
+forward-label w p = rw (add-one p) (label-suc w p)
 
-shared-slice-read-if2 : tie.Need-shared-slice-read-if2
-shared-slice-read-if2 c =
-    let a = c .before .before .args in
-    let q = c .before .before .pre in
-    omega (arith, room (a .sheet .now) (q .0) (a .p) (omega arith))
+add-label : tie.Need-add-label
+add-label c = search needs
 
-add-t11 : tie.Need-add-t11
-add-t11 c = search needs
+label-requires : tie.Need-label-requires
+label-requires c κs = search needs
 
-cast-t12 : tie.Need-cast-t12
-cast-t12 c = search needs
+add-t10 : tie.Need-add-t10
+add-t10 c = search needs
 
-add-t13 : tie.Need-add-t13
-add-t13 c = search needs
+cast-t11 : tie.Need-cast-t11
+cast-t11 c = let q = c .before .before .before .before .pre in omega (arith, q .1, q .2, begins-bounds _ (q .0))
+
+add-t12 : tie.Need-add-t12
+add-t12 c = search needs
 
 returns : tie.Need-returns
 returns c =
-    let a = c .before .before .before .args in
-    let q = c .before .before .before .pre in
-    forward-hit (named (a .sheet .now)) (a .p) (a .byte) (a .cost) (omega arith) (sym (read-code (a .sheet .now) (q .0) (a .p) (omega arith)) ∙ c .if2 .taken)
+    let a = c .before .before .before .before .args in
+    let w = named (a .sheet .now) in
+    rw (add-one, add-one)
+    (sym (forward-on (a .cost) w (a .p) (a .byte) (omega arith) (sym (c .before .label .ensures ∙ forward-label w (a .p)) ∙ c .if2 .taken)))
 
-add-t15 : tie.Need-add-t15
-add-t15 c = search needs
+add-t14 : tie.Need-add-t14
+add-t14 c = search needs
 
 returns-2 : tie.Need-returns-2
 returns-2 c =
-    let a = c .before .before .before .args in
-    let q = c .before .before .before .pre in
-    forward-miss (named (a .sheet .now)) (a .p) (a .byte) (a .cost) (omega arith) (λ e. c .if2 .left (read-code (a .sheet .now) (q .0) (a .p) (omega arith) ∙ e))
+    let a = c .before .before .before .before .args in
+    let w = named (a .sheet .now) in
+    rw add-one
+    (sym
+    (forward-off (a .cost) w (a .p) (a .byte) (omega arith) (λ e. c .if2 .left (c .before .label .ensures ∙ forward-label w (a .p) ∙ e))))
 
 returns-3 : tie.Need-returns-3
-returns-3 c = let a = c .before .args in forward-none (named (a .sheet .now)) (a .p) (a .byte) (a .cost) (omega arith)
+returns-3 c = let a = c .before .before .args in sym (forward-past (a .cost) (named (a .sheet .now)) (a .p) (a .byte) (omega arith))
 
 pub forward-step-spec : {M : Type 1} → statement M
 forward-step-spec =
     tie.close
     (tie.spec
-    add-if2
-    shared-slice-read-if2
-    add-t11
-    cast-t12
-    add-t13
+    add-label
+    label-requires
+    add-t10
+    cast-t11
+    add-t12
     returns
-    add-t15
+    add-t14
     returns-2
     returns-3)

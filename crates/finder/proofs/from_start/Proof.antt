@@ -1,14 +1,23 @@
 -- `from_start` meets its contract. By whether the code's first byte comes before the piece ends. Assumes nothing.
-use Prim.Native.Nat.{zero-le}
+use native.Mathlib.Nat.{le-refl}
 use native.Mathlib.Omega.{arith}
 use borrow.Author.Needs.{needs}
-use Rattle.finder.proofs.Turns.{so-turned, so-bounds, turned-missed, so-start}
-use Rattle.finder.proofs.Reading.{room}
+use Rattle.automaton.specs.Arrows.{label}
+use Rattle.sheets.specs.Sheet.{named}
+use Rattle.sheets.proofs.Sheets.{begins-bounds}
+use Rattle.finder.specs.Inside.{Skipped}
+use Rattle.finder.proofs.Walking.{so-turned, so-bounds}
+use Rattle.finder.proofs.Starting.{turned-missed, so-start}
 use Rattle.finder.proofs.from_start.Statement.{statement}
 use Rattle.finder.proofs.from_start.Tie as tie
 
-shared-slice-read-skip : tie.Need-shared-slice-read-skip
-shared-slice-read-skip c = omega (arith, room (c .before .before .before .args .sheet .now) (c .before .before .before .pre .on) 0 zero-le)
+-- the byte that is looked for is the first label
+skipped : (c : tie.After-skip) → let a = c .before .before .before .before .args in
+    Skipped (a .piece .now) (a .i) (label (named (a .sheet .now)) 1) (c .skip .result)
+skipped c = rw (c .before .label .ensures) at (c .skip .ensures)
+
+label-requires : tie.Need-label-requires
+label-requires c κs = let b = c .before .before .pre .on in (b, le-refl 1, begins-bounds _ b .0)
 
 skip-requires : tie.Need-skip-requires
 skip-requires c κs = search needs
@@ -17,7 +26,9 @@ sub-cost : tie.Need-sub-cost
 sub-cost c = search needs
 
 returns : tie.Need-returns
-returns c = turned-missed (c .before .before .before .before .before .pre) (c .before .skip .result) (c .before .skip .ensures) (omega (arith, c .if1 .taken))
+returns c =
+    let s = c .before in
+    turned-missed (s .before .before .before .before .pre) (s .skip .result) (skipped s) (omega (arith, c .if1 .taken))
 
 shared-slice-read-first-step : tie.Need-shared-slice-read-first-step
 shared-slice-read-first-step c = search needs
@@ -25,7 +36,7 @@ shared-slice-read-first-step c = search needs
 first-step-requires : tie.Need-first-step-requires
 first-step-requires c κs =
     let s = c .before .before in
-    let e = s .skip .ensures in
+    let e = skipped s in
     (s .before .before .before .before .pre .on, e .found (omega (arith, e .within, c .before .if1 .left)))
 
 cast-come-to : tie.Need-cast-come-to
@@ -42,7 +53,7 @@ come-to-requires c κs =
     let f = c .before .first-step in
     let e = c .before .before .before in
     let s = e .before in
-    let b = so-bounds (so-start (s .before .before .before .before .pre) (s .skip .result) (s .skip .ensures) (e .if1 .left) (f .result) (f .ensures)) in
+    let b = so-bounds (so-start (s .before .before .before .before .pre) (s .skip .result) (skipped s) (e .if1 .left) (f .result) (f .ensures)) in
     (b .3, b .4)
 
 returns-2 : tie.Need-returns-2
@@ -50,14 +61,14 @@ returns-2 c =
     let f = c .before .before .first-step in
     let e = c .before .before .before .before in
     let s = e .before in
-    so-turned (so-start (s .before .before .before .before .pre) (s .skip .result) (s .skip .ensures) (e .if1 .left) (f .result) (f .ensures))
+    so-turned (so-start (s .before .before .before .before .pre) (s .skip .result) (skipped s) (e .if1 .left) (f .result) (f .ensures))
     (c .come-to .result) (c .come-to .ensures)
 
 pub from-start-spec : {M : Type 1} → statement M
 from-start-spec =
     tie.close
     (tie.spec
-    shared-slice-read-skip
+    label-requires
     skip-requires
     sub-cost
     returns

@@ -1,6 +1,6 @@
 -- `skip` meets its contract. The loop keeps that no byte passed is the one looked for. Assumes nothing.
 use mathlib.Core.Path.{refl}
-use Prim.Native.Nat.{_+_, _-_}
+use Prim.Native.Nat.{ℕ, _+_, _-_}
 use native.Mathlib.Omega.{arith}
 use borrow.Author.Needs.{needs}
 use lib.ListN.{length}
@@ -13,6 +13,23 @@ Inv-loop piece from byte size i₀ i = Passed piece from byte i
 
 abbrev μ-loop : tie.MeasureT-loop
 μ-loop piece from byte size i₀ i = length piece - i
+
+-- where a turn begins
+abbrev entry : tie.At-loop Inv-loop μ-loop → tie.Start Inv-loop μ-loop
+entry c = c .before .before
+
+-- behind the first, the second and the third byte of a turn
+abbrev Past : (c : tie.At-loop Inv-loop μ-loop) → (k : ℕ) → Type 0
+Past c k = let a = entry c .args in Passed (a .piece .now) (a .from) (a .byte) (c .loop .i + k)
+
+one : (c : tie.Else1 Inv-loop μ-loop) → Past (c .before .before .before) 1
+one c = passed-next (c .before .before .before .loop .inv) _ refl (omega arith) (c .if1 .left)
+
+two : (c : tie.Else2 Inv-loop μ-loop) → Past (c .before .before .before .before .before) 2
+two c = passed-next (one (c .before .before)) _ (omega arith) (omega arith) (c .if2 .left)
+
+three : (c : tie.Else3 Inv-loop μ-loop) → Past (c .before .before .before .before .before .before .before) 3
+three c = passed-next (two (c .before .before)) _ (omega arith) (omega arith) (c .if3 .left)
 
 loop-holds : tie.Need-loop-holds Inv-loop μ-loop
 loop-holds c = passed-none _ (c .before .pre)
@@ -36,9 +53,7 @@ add-result : tie.Need-add-result Inv-loop μ-loop
 add-result c = search needs
 
 returns-2 : tie.Need-returns-2 Inv-loop μ-loop
-returns-2 c =
-    let one = passed-next (c .before .before .before .before .before .loop .inv) _ refl (omega arith) (c .before .before .if1 .left) in
-    passed-found one (c .if2 .taken)
+returns-2 c = passed-found (one (c .before .before)) (c .if2 .taken)
 
 add-if3 : tie.Need-add-if3 Inv-loop μ-loop
 add-if3 c = search needs
@@ -50,9 +65,7 @@ add-result-2 : tie.Need-add-result-2 Inv-loop μ-loop
 add-result-2 c = search needs
 
 returns-3 : tie.Need-returns-3 Inv-loop μ-loop
-returns-3 c =
-    let one = passed-next (c .before .before .before .before .before .before .before .loop .inv) _ refl (omega arith) (c .before .before .before .before .if1 .left) in
-    passed-found (passed-next one _ (omega arith) (omega arith) (c .before .before .if2 .left)) (c .if3 .taken)
+returns-3 c = passed-found (two (c .before .before)) (c .if3 .taken)
 
 add-if4 : tie.Need-add-if4 Inv-loop μ-loop
 add-if4 c = search needs
@@ -64,10 +77,7 @@ add-result-3 : tie.Need-add-result-3 Inv-loop μ-loop
 add-result-3 c = search needs
 
 returns-4 : tie.Need-returns-4 Inv-loop μ-loop
-returns-4 c =
-    let one = passed-next (c .before .before .before .before .before .before .before .before .before .loop .inv) _ refl (omega arith) (c .before .before .before .before .before .before .if1 .left) in
-    let two = passed-next one (c .before .before .before .before .before .before .before .before .before .loop .i + 2) (omega arith) (omega arith) (c .before .before .before .before .if2 .left) in
-    passed-found (passed-next two _ (omega arith) (omega arith) (c .before .before .if3 .left)) (c .if4 .taken)
+returns-4 c = passed-found (three (c .before .before)) (c .if4 .taken)
 
 add-i : tie.Need-add-i Inv-loop μ-loop
 add-i c = search needs
@@ -76,11 +86,7 @@ loop-less : tie.Need-loop-less Inv-loop μ-loop
 loop-less c = search needs
 
 loop-again : tie.Need-loop-again Inv-loop μ-loop
-loop-again c =
-    let one = passed-next (c .before .before .before .before .before .before .before .before .before .loop .inv) _ refl (omega arith) (c .before .before .before .before .before .before .if1 .left) in
-    let two = passed-next one (c .before .before .before .before .before .before .before .before .before .loop .i + 2) (omega arith) (omega arith) (c .before .before .before .before .if2 .left) in
-    let three = passed-next two (c .before .before .before .before .before .before .before .before .before .loop .i + 3) (omega arith) (omega arith) (c .before .before .if3 .left) in
-    passed-next three _ (omega arith) (omega arith) (c .if4 .left)
+loop-again c = passed-next (three (c .before .before)) _ (omega arith) (omega arith) (c .if4 .left)
 
 skip-one-requires : tie.Need-skip-one-requires Inv-loop μ-loop
 skip-one-requires c κs = search needs

@@ -1,13 +1,11 @@
 -- `take_bytes` meets its contract. The loop keeps that the bytes taken and the places written come before what is fed of the rest. Assumes nothing.
-use mathlib.Core.Path.{_∙_}
 use mathlib.Core.Logic.{⊎-elim}
-use Prim.Native.Nat.{_-_, zero-le}
+use Prim.Native.Nat.{_-_}
 use native.Mathlib.Omega.{arith}
 use borrow.Author.Needs.{needs}
 use borrow.Author.Tests.{ltb-true, ltb-false}
 use lib.ListN.{length}
 use Rattle.finder.proofs.Taking.{Loop, loop-start, loop-bounds, answer-done, answer-full, turning, turn-hit, turn-miss}
-use Rattle.finder.proofs.Reading.{room, read-size}
 use Rattle.finder.proofs.take_bytes.Statement.{statement}
 use Rattle.finder.proofs.take_bytes.Tie as tie
 
@@ -17,19 +15,16 @@ Inv-loop sheet watch piece places₀ m state₀ cost₀ i₀ k₀ places state c
 abbrev μ-loop : tie.MeasureT-loop
 μ-loop sheet watch piece places₀ m state₀ cost₀ i₀ k₀ places state cost i k = length piece - i
 
-shared-slice-read-wide : tie.Need-shared-slice-read-wide Inv-loop μ-loop
-shared-slice-read-wide c = omega (arith, room (c .before .before .before .before .args .sheet .now) (c .before .before .before .before .pre .0) 0 zero-le)
-
-wide-requires : tie.Need-wide-requires Inv-loop μ-loop
-wide-requires c κs = search needs
+code-length-requires : tie.Need-code-length-requires Inv-loop μ-loop
+code-length-requires c κs = c .before .before .before .pre .0
 
 cast-m : tie.Need-cast-m Inv-loop μ-loop
 cast-m c = search needs
 
 loop-holds : tie.Need-loop-holds Inv-loop μ-loop
 loop-holds c =
-    let q = c .before .before .before .before .before .pre in
-    loop-start (c .wide .result) (q .0) (q .1) (c .wide .ensures .0 ∙ read-size (c .before .before .before .before .before .args .sheet .now) (q .0))
+    let q = c .before .before .before .before .pre in
+    loop-start (c .code-length .result) (q .0) (q .1) (c .code-length .ensures .0)
 
 advance-requires : tie.Need-advance-requires Inv-loop μ-loop
 advance-requires c κs = turning (c .before .before .loop .inv) (c .before .loop-test .taken)
@@ -73,26 +68,20 @@ loop-again-2 c =
     let b = a .before in
     turn-miss (b .before .before .loop .inv) (ltb-true _ _ (b .if1 .taken)) (a .advance .result) (a .advance .ensures) (c .enum-told .given .1)
 
-cast-t24 : tie.Need-cast-t24 Inv-loop μ-loop
-cast-t24 c = let b = loop-bounds (c .before .before .loop .inv) in omega (arith, b .0, b .1)
+cast-taken : tie.Need-cast-taken Inv-loop μ-loop
+cast-taken c = let b = loop-bounds (c .before .before .loop .inv) in omega (arith, b .0, b .1)
+
+cast-written : tie.Need-cast-written Inv-loop μ-loop
+cast-written c = let b = loop-bounds (c .before .before .loop .inv) in omega (arith, b .0, b .1, b .2)
+
+add-t24 : tie.Need-add-t24 Inv-loop μ-loop
+add-t24 c = let b = loop-bounds (c .before .before .before .loop .inv) in omega (arith, b .1)
 
 add-t25 : tie.Need-add-t25 Inv-loop μ-loop
-add-t25 c = let b = loop-bounds (c .before .before .before .loop .inv) in omega (arith, b .1)
+add-t25 c = let b = loop-bounds (c .before .before .before .before .loop .inv) in omega (arith, b .1, b .2, b .3)
 
-cast-t26 : tie.Need-cast-t26 Inv-loop μ-loop
-cast-t26 c = let b = loop-bounds (c .before .before .before .loop .inv) in omega (arith, b .0, b .1, b .2)
-
-add-t27 : tie.Need-add-t27 Inv-loop μ-loop
-add-t27 c = let b = loop-bounds (c .before .before .before .before .loop .inv) in omega (arith, b .1, b .2, b .3)
-
-add-t28 : tie.Need-add-t28 Inv-loop μ-loop
-add-t28 c = let b = loop-bounds (c .before .before .before .before .before .loop .inv) in omega (arith, b .4)
-
-cast-t30 : tie.Need-cast-t30 Inv-loop μ-loop
-cast-t30 c = let b = loop-bounds (c .before .before .before .before .before .loop .inv) in omega (arith, b .0, b .1)
-
-cast-t31 : tie.Need-cast-t31 Inv-loop μ-loop
-cast-t31 c = let b = loop-bounds (c .before .before .before .before .before .loop .inv) in omega (arith, b .0, b .1, b .2)
+add-t26 : tie.Need-add-t26 Inv-loop μ-loop
+add-t26 c = let b = loop-bounds (c .before .before .before .before .before .loop .inv) in omega (arith, b .4)
 
 same-length : tie.Need-same-length Inv-loop μ-loop
 same-length c = c .before .before .before .before .before .loop .inv .front .size
@@ -113,8 +102,7 @@ take-bytes-spec =
     (tie.spec
     Inv-loop
     μ-loop
-    shared-slice-read-wide
-    wide-requires
+    code-length-requires
     cast-m
     loop-holds
     advance-requires
@@ -128,12 +116,10 @@ take-bytes-spec =
     enum-told
     loop-less-2
     loop-again-2
-    cast-t24
+    cast-taken
+    cast-written
+    add-t24
     add-t25
-    cast-t26
-    add-t27
-    add-t28
-    cast-t30
-    cast-t31
+    add-t26
     same-length
     returns)

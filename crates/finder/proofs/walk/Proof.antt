@@ -4,7 +4,7 @@ use native.Mathlib.Omega.{arith}
 use borrow.Author.Needs.{needs}
 use borrow.Author.Tests.{ltb-true}
 use lib.ListN.{length}
-use Rattle.finder.proofs.Turns.{So-far, so-first, so-bounds, so-more, so-turned}
+use Rattle.finder.proofs.Walking.{So-far, so-first, so-bounds, so-more, so-turned}
 use Rattle.finder.proofs.walk.Statement.{statement}
 use Rattle.finder.proofs.walk.Tie as tie
 

@@ -36,8 +36,14 @@ same-length c = search needs
 returns : tie.Need-returns
 unfolding end-form
 returns c =
-    let s = c .before .before .before .before .before .before .before .before .before .before .before .before .before .before .before .before .before .before .before .before .before in
-    (written-on (written-on (written-on (c .before .before .before .before .before .before .before .before .before .before .before .before .before .before .before .before .before .put-number .ensures) (c .before .before .before .before .before .before .before .before .before .before .before .before .put-number2 .ensures)) (c .before .before .before .before .before .before .before .put-number3 .ensures)) (c .before .before .put .ensures), end-short _ _ _ (s .fits .bytes .fits) (s .fits .hits .fits) (s .fits .compares .fits))
+    let last = c .before .before in
+    let third = last .before .before .before .before .before in
+    let second = third .before .before .before .before .before in
+    let first = second .before .before .before .before .before in
+    let n = first .before .before .before .before .fits in (
+      written-on (written-on (written-on (first .put-number .ensures) (second .put-number2 .ensures)) (third .put-number3 .ensures)) (last .put .ensures),
+      end-short _ _ _ (n .bytes .fits) (n .hits .fits) (n .compares .fits),
+    )
 
 pub put-end-spec : {M : Type 1} → statement M
 put-end-spec =

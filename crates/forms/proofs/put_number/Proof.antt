@@ -25,7 +25,11 @@ same-length : tie.Need-same-length
 same-length c = search needs
 
 returns : tie.Need-returns
-returns c = written-on (c .before .before .before .before .before .before .before .put .ensures) (rw (c .before .before .before .before .before .before .before .before .before .decimal .ensures .1 .1 ∙ decimal-is _ _ (c .before .before .before .before .before .before .before .before .before .decimal .ensures .1 .0)) at (c .before .before .put2 .ensures))
+returns c =
+    let q = c .before .before in
+    let p = q .before .before .before .before .before in
+    let d = p .before .before .decimal .ensures .1 in
+    written-on (p .put .ensures) (rw (d .1 ∙ decimal-is _ _ (d .0)) at (q .put2 .ensures))
 
 pub put-number-spec : {M : Type 1} → statement M
 put-number-spec =

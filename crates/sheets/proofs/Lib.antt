@@ -1,0 +1,7 @@
+pub mod Layouts
+pub mod Sheets
+pub mod SameFronts
+pub mod Fillings
+pub mod States
+pub mod Prepares
+pub mod Entries

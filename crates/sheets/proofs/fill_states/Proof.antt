@@ -1,0 +1,69 @@
+-- `fill_states` meets its contract. The loop keeps that the states below r are filled. Assumes nothing.
+use Prim.Native.Nat.{_+_, _-_}
+use native.Mathlib.Omega.{arith}
+use Rattle.sheets.proofs.Prepares.{Filling-states, states-start, state-ready, few-stored, count-room, states-turn, states-done}
+use Rattle.sheets.proofs.fill_states.Statement.{statement}
+use Rattle.sheets.proofs.fill_states.Tie as tie
+
+abbrev Inv-loop : tie.InvT-loop
+Inv-loop code buffer₀ m f₀ r₀ buffer f r = Filling-states code buffer₀ buffer r f
+
+abbrev μ-loop : tie.MeasureT-loop
+μ-loop code buffer₀ m f₀ r₀ buffer f r = m + 1 - r
+
+loop-holds : tie.Need-loop-holds Inv-loop μ-loop
+loop-holds c = states-start (c .before .before .pre .0) (c .before .before .pre .1)
+
+fill-state-requires : tie.Need-fill-state-requires Inv-loop μ-loop
+fill-state-requires c κs = state-ready (c .before .before .loop .inv) (c .before .loop-test .taken)
+
+cast-buffer : tie.Need-cast-buffer Inv-loop μ-loop
+cast-buffer c =
+    let s = c .before .before .before .before .before .before .loop .inv in
+    omega (arith, few-stored s (c .before .before .before .before .before .loop-test .taken) (c .before .before .before .fill-state .ensures))
+
+add-buffer : tie.Need-add-buffer Inv-loop μ-loop
+add-buffer c = let s = c .before .before .before .before .before .before .loop .inv in omega (arith, s .fits .few)
+
+add-buffer-2 : tie.Need-add-buffer-2 Inv-loop μ-loop
+add-buffer-2 c = let s = c .before .before .before .before .before .before .loop .inv in omega (arith, s .fits .few, s .ok)
+
+slice-write-buffer : tie.Need-slice-write-buffer Inv-loop μ-loop
+slice-write-buffer c =
+    count-room (c .before .before .before .before .before .before .loop .inv)
+    (c .before .before .before .before .before .loop-test .taken) (c .before .before .before .fill-state .ensures)
+
+add-r : tie.Need-add-r Inv-loop μ-loop
+add-r c = let s = c .before .before .before .before .before .before .loop .inv in omega (arith, s .fits .few, s .ok)
+
+loop-less : tie.Need-loop-less Inv-loop μ-loop
+loop-less c = omega arith
+
+loop-again : tie.Need-loop-again Inv-loop μ-loop
+loop-again c =
+    states-turn (c .before .before .before .before .before .before .loop .inv)
+    (c .before .before .before .before .before .loop-test .taken) (c .before .before .before .fill-state .ensures)
+
+same-length : tie.Need-same-length Inv-loop μ-loop
+same-length c = c .before .loop .inv .filling .long
+
+returns : tie.Need-returns Inv-loop μ-loop
+returns c = states-done (c .before .loop .inv) (c .loop-test .left)
+
+pub fill-states-spec : {M : Type 1} → statement M
+fill-states-spec =
+    tie.close
+    (tie.spec
+    Inv-loop
+    μ-loop
+    loop-holds
+    fill-state-requires
+    cast-buffer
+    add-buffer
+    add-buffer-2
+    slice-write-buffer
+    add-r
+    loop-less
+    loop-again
+    same-length
+    returns)

@@ -1,0 +1,4 @@
+pub mod Sheet
+pub mod Entry
+pub mod Promise
+pub mod Inside

@@ -1,0 +1,32 @@
+-- What is promised of sheets. Each statement is a type; docs/PROOFS.md names its proof. Assumes nothing.
+use mathlib.Core.Path.{_≡_}
+use mathlib.Core.Bool.{true}
+use mathlib.Core.List.{List, _++_}
+use Prim.Native.Nat.{ℕ, _+_, _*_, _≤_}
+use lib.ListN.{length, drop}
+use Rattle.words.specs.Words.{in-front}
+use Rattle.automaton.specs.Arrows.{back-arrows}
+use Rattle.codes.specs.Codes.{accepted}
+use Rattle.sheets.specs.Sheet.{sheet, sheet-room, named, begins}
+use Rattle.sheets.specs.Entry.{prepare-refusal, prepare-buffer}
+
+-- a sheet has 2m + 2 bytes and one for each backward arrow, which always fits its room
+unfoldable pub Sheet-sized : Type 0
+Sheet-sized =
+    (w : List ℕ) → (length (sheet w) ≡ 2 * length w + 2 + back-arrows w) × (length (sheet w) ≤ sheet-room (length w))
+
+-- a sheet tells its code (`sheet` is injective): two codes have one sheet only if they are equal
+unfoldable pub Sheet-tells : Type 0
+Sheet-tells = (w v xs ys : List ℕ) → sheet w ++ xs ≡ sheet v ++ ys → w ≡ v
+
+-- a buffer that begins with the sheet of an accepted code, whatever stands behind it, is accepted and names that code; and no other buffer is accepted
+unfoldable pub Begins-right : Type 0
+Begins-right =
+    ((w rest : List ℕ) → accepted w ≡ true → (begins (sheet w ++ rest) ≡ true) × (named (sheet w ++ rest) ≡ w))
+    × ((bs : List ℕ) → begins bs ≡ true → (accepted (named bs) ≡ true) × (bs ≡ in-front (sheet (named bs)) bs))
+
+-- preparing that is not refused leaves such a buffer, of the code that it was given
+unfoldable pub Prepare-makes : Type 0
+Prepare-makes =
+    (w a : List ℕ) → prepare-refusal w (length a) ≡ 0 →
+    (accepted w ≡ true) × (prepare-buffer w a ≡ sheet w ++ drop (length (sheet w)) a)
