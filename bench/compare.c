@@ -22,11 +22,11 @@ enum {
 /* The copies of an entry, named as bench/compare names them. */
 #define COPIES_OF(build, entry) build##_0_##entry, build##_1_##entry, build##_2_##entry, build##_3_##entry
 
-preparer COPIES_OF(before, speed_prepare), COPIES_OF(after, speed_prepare);
-feeder COPIES_OF(before, speed_feed), COPIES_OF(after, speed_feed);
+preparer COPIES_OF(before, entries_prepare), COPIES_OF(after, entries_prepare);
+feeder COPIES_OF(before, entries_feed), COPIES_OF(after, entries_feed);
 
-static preparer *const preparers[BUILDS][COPIES] = {{COPIES_OF(before, speed_prepare)}, {COPIES_OF(after, speed_prepare)}};
-static feeder *const feeders[BUILDS][COPIES] = {{COPIES_OF(before, speed_feed)}, {COPIES_OF(after, speed_feed)}};
+static preparer *const preparers[BUILDS][COPIES] = {{COPIES_OF(before, entries_prepare)}, {COPIES_OF(after, entries_prepare)}};
+static feeder *const feeders[BUILDS][COPIES] = {{COPIES_OF(before, entries_feed)}, {COPIES_OF(after, entries_feed)}};
 
 static struct search s;
 

@@ -16,7 +16,7 @@ static void best_of(const uint8_t *code, size_t m, double *rattle, double *twin)
 {
     *rattle = *twin = HUGE_VAL;
     for (int r = 0; r < ROUNDS; r++) {
-        *rattle = fmin(*rattle, preparing_time(speed_prepare, code, m, CALLS));
+        *rattle = fmin(*rattle, preparing_time(entries_prepare, code, m, CALLS));
         *twin = fmin(*twin, preparing_time(twin_prepare, code, m, CALLS));
     }
 }
@@ -39,7 +39,7 @@ int main(void)
         for (int s = 0; s < SHAPES; s++) {
             double rattle;
             shapes[s].make(code, m);
-            if (!same_sheets(speed_prepare, twin_prepare, code, m))
+            if (!same_sheets(entries_prepare, twin_prepare, code, m))
                 stop("other sheets than Rattle's", "C twin");
             best_of(code, m, &rattle, &last_twin[s]);
             printf(" %9.0f (%5.1f) |", rattle, rattle / (double)m);

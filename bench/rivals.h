@@ -2,7 +2,7 @@
 #ifndef RIVALS_H
 #define RIVALS_H
 
-#include "speed.h"
+#include "../c/entries.h"
 
 /* The C twin does what the proved finder does, comparison for comparison and refusal for refusal. */
 preparer twin_prepare;

@@ -83,7 +83,7 @@ static double timed(int finder)
     double start = cpu_now();
 
     switch (finder) {
-    case RATTLE: feed_text(speed_feed, &s, 0); break;
+    case RATTLE: feed_text(entries_feed, &s, 0); break;
     case TWIN: feed_text(twin_feed, &s, 0); break;
     case KMP: feed_text(kmp_feed, &s, 0); break;
     case MEMMEM: memmem_text(0); break;
@@ -98,7 +98,7 @@ static struct found checked(int finder)
     struct lines l = {.in_number = 1};
 
     switch (finder) {
-    case RATTLE: return feed_text(speed_feed, &s, 1);
+    case RATTLE: return feed_text(entries_feed, &s, 1);
     case TWIN: return feed_text(twin_feed, &s, 1);
     case KMP: return feed_text(kmp_feed, &s, 1);
     case MEMMEM: return memmem_text(1);
@@ -134,7 +134,7 @@ static uint64_t dearest(void)
 
     for (size_t i = 0; i < s.n && i < DEAREST_IN; i++) {
         uint64_t before = f.compares;
-        f = speed_feed(s.sheet, s.sheet_length, f.state, f.taken, f.hits, f.compares, s.text + i, 1, &place, 1);
+        f = entries_feed(s.sheet, s.sheet_length, f.state, f.taken, f.hits, f.compares, s.text + i, 1, &place, 1);
         if (f.compares - before > most)
             most = f.compares - before;
     }
@@ -267,7 +267,7 @@ int main(int argc, char **argv)
     for (const struct job *j = jobs; j->make; j++) {
         double best[FINDERS];
 
-        if (set_up(&s, j, speed_prepare))
+        if (set_up(&s, j, entries_prepare))
             write_text();
         kmp_prepare(s.code, s.m);
         struct found r = agreed(present);

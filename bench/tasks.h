@@ -2,7 +2,7 @@
 #ifndef TASKS_H
 #define TASKS_H
 
-#include "speed.h"
+#include "../c/entries.h"
 #include "texts.h"
 
 enum {

@@ -1,0 +1,52 @@
+/* The C side of crates/entries: preparing and feeding as the tests and the benchmark call them. `rt staticlib entries` makes the archive.
+
+   A Rattle slice is a pointer and a number of elements. The structs are #[repr(C)] in Rattle (PreparedNumbers, FedNumbers), so they are laid out
+   as C lays them out; the offsets are stated below. What is said of memory in finder.h holds here too. Other implementations of preparing and
+   feeding answer the same structs, so that one caller serves all. */
+#ifndef ENTRIES_H
+#define ENTRIES_H
+
+#include <stddef.h>
+#include <stdint.h>
+
+enum {
+    LONGEST_CODE = 255,
+    SHEET_ROOM = 767 /* 3m + 2 bytes for the longest code */
+};
+
+/* What preparing answers: the sheet's length, or 0 and the number of the refusal. */
+struct prepared {
+    uint64_t length;
+    uint32_t refusal;
+};
+
+/* What feeding answers: the new watch (state, bytes taken, places reported, comparisons), the bytes read of the piece and the places written in this
+   call, the number of the refusal or 0, and whether the list is full with bytes of the piece left (1) or not (0). */
+struct fed {
+    uint32_t state;
+    uint32_t taken;
+    uint32_t hits;
+    uint32_t read;
+    uint64_t compares;
+    uint32_t written;
+    uint32_t refusal;
+    uint32_t full;
+};
+
+/* An array of -1 elements, which no compiler takes, where the layout is another one. */
+typedef char prepared_layout[offsetof(struct prepared, length) == 0 && offsetof(struct prepared, refusal) == 8 && sizeof(struct prepared) == 16 ? 1 : -1];
+typedef char watch_layout[offsetof(struct fed, state) == 0 && offsetof(struct fed, taken) == 4 && offsetof(struct fed, hits) == 8 &&
+                          offsetof(struct fed, compares) == 16 ? 1 : -1];
+typedef char fed_layout[offsetof(struct fed, read) == 12 && offsetof(struct fed, written) == 24 && offsetof(struct fed, refusal) == 28 &&
+                        offsetof(struct fed, full) == 32 && sizeof(struct fed) == 40 ? 1 : -1];
+
+/* The shapes of preparing and feeding. */
+typedef struct prepared preparer(const uint8_t *code, size_t m, uint8_t *buffer, size_t room);
+
+typedef struct fed feeder(const uint8_t *sheet, size_t sheet_length, uint32_t state, uint32_t taken, uint32_t hits, uint64_t compares,
+                          const uint8_t *piece, size_t piece_length, uint32_t *places, size_t room);
+
+preparer entries_prepare; /* proved, in Rattle */
+feeder entries_feed;
+
+#endif
