@@ -79,8 +79,8 @@ fn label(sheet: &[u8], t: usize) -> u8
     sheet[t]
 }
 
-// The place in the sheet behind the targets of the states below s, s being 1 or more, for a code of m bytes.
-fn targets_below(sheet: &[u8], m: usize, s: usize) -> usize
+// The place in the sheet after the targets of the states below s, s being 1 or more, for a code of m bytes.
+fn after_targets(sheet: &[u8], m: usize, s: usize) -> usize
     requires { ⌜ (begins (now sheet) ≡ true) × (m ≡ length (named (now sheet))) × (1 ≤ s) × (s ≤ m + 1) ⌝ }
     ensures { λ r. ⌜ r ≡ target-place m (arrows-below (named (now (sheet .entry))) s) ⌝ }
 {
@@ -127,8 +127,8 @@ fn follow(sheet: &[u8], p: usize, byte: u8) -> Step
     ensures { λ r. ⌜ r ≡ stepped (named (now (sheet .entry))) p byte ⌝ }
 {
     let m = code_length(sheet);
-    let end = targets_below(sheet, m, p + 1);
-    let mut at = targets_below(sheet, m, p);
+    let end = after_targets(sheet, m, p + 1);
+    let mut at = after_targets(sheet, m, p);
     let mut cost: u32 = 0;
     while at < end {
         let t = target(sheet, at);

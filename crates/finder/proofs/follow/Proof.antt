@@ -45,17 +45,17 @@ inside c = next-inside (c .before .before .loop .inv .0) (going (c .before)) (c 
 code-length-requires : tie.Need-code-length-requires Inv-loop μ-loop
 code-length-requires c κs = c .before .pre .0
 
-add-targets-below : tie.Need-add-targets-below Inv-loop μ-loop
-add-targets-below c = let q = c .before .before .pre in omega (arith, q .2, begins-bounds _ (q .0))
+add-after-targets : tie.Need-add-after-targets Inv-loop μ-loop
+add-after-targets c = let q = c .before .before .pre in omega (arith, q .2, begins-bounds _ (q .0))
 
-targets-below-requires : tie.Need-targets-below-requires Inv-loop μ-loop
-targets-below-requires c κs =
+after-targets-requires : tie.Need-after-targets-requires Inv-loop μ-loop
+after-targets-requires c κs =
     let q = c .before .before .pre in
     let m = c .code-length .ensures .0 in
     (q .0, m, omega arith, omega (arith, q .2, m))
 
-targets-below-requires-2 : tie.Need-targets-below-requires-2 Inv-loop μ-loop
-targets-below-requires-2 c κs =
+after-targets-requires-2 : tie.Need-after-targets-requires-2 Inv-loop μ-loop
+after-targets-requires-2 c κs =
     let q = c .before .before .before .pre in
     let m = c .before .code-length .ensures .0 in
     (q .0, m, q .1, omega (arith, q .2, m))
@@ -64,11 +64,11 @@ loop-holds : tie.Need-loop-holds Inv-loop μ-loop
 loop-holds c =
     let q = c .before .before .before .before .pre in
     let a = c .before .before .before .before .args in
-    let end = rw add-one at (c .before .targets-below .ensures) in (
+    let end = rw add-one at (c .before .after-targets .ensures) in (
       comparing-start _ _ (q .2) (begins-bounds _ (q .0) .1),
       c .before .before .code-length .ensures .0,
       omega (arith, end, below-suc (named (a .sheet .now)) (a .p)),
-      omega (arith, c .targets-below2 .ensures),
+      omega (arith, c .after-targets2 .ensures),
     )
 
 target-requires : tie.Need-target-requires Inv-loop μ-loop
@@ -128,9 +128,9 @@ follow-spec =
     Inv-loop
     μ-loop
     code-length-requires
-    add-targets-below
-    targets-below-requires
-    targets-below-requires-2
+    add-after-targets
+    after-targets-requires
+    after-targets-requires-2
     loop-holds
     target-requires
     add-cost

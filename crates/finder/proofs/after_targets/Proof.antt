@@ -1,4 +1,4 @@
--- `targets_below` meets its contract. Behind the code there is a count for each state, and behind the counts are the targets. Assumes nothing.
+-- `after_targets` meets its contract. Behind the code there is a count for each state, and behind the counts are the targets. Assumes nothing.
 use mathlib.Core.Path.{_≡_, ap, _∙_}
 use mathlib.Core.Bool.{true}
 use mathlib.Core.List.{List}
@@ -9,8 +9,8 @@ use lib.ListN.{length, getD}
 use Rattle.automaton.specs.Arrows.{arrows-below}
 use Rattle.sheets.specs.Sheet.{target-place, named, begins}
 use Rattle.sheets.proofs.Sheets.{begins-bounds, begins-count, begins-room}
-use Rattle.finder.proofs.targets_below.Statement.{statement}
-use Rattle.finder.proofs.targets_below.Tie as tie
+use Rattle.finder.proofs.after_targets.Statement.{statement}
+use Rattle.finder.proofs.after_targets.Tie as tie
 
 -- the count before state s
 count-is : (bs : List ℕ) (m s r : ℕ) → begins bs ≡ true → m ≡ length (named bs) → 1 ≤ s → s ≤ m + 1 → r ≡ getD bs (m + s) 0 → r ≡ arrows-below (named bs) s
@@ -40,6 +40,6 @@ returns c =
     let q = c .before .before .before .pre in
     ap (target-place (c .before .before .before .args .m)) (count-is _ _ _ (c .wide .result) (q .0) (q .1) (q .2) (q .3) (c .wide .ensures .0))
 
-pub targets-below-spec : {M : Type 1} → statement M
-targets-below-spec =
+pub after-targets-spec : {M : Type 1} → statement M
+after-targets-spec =
     tie.close (tie.spec mul-result add-result add-wide shared-slice-read-wide wide-requires add-result-2 returns)
