@@ -215,7 +215,7 @@ static size_t use_long_code(unsigned number)
     size_t i;
 
     random_state = 88172645463325252u + number;
-    m = 255 - number % 64 * 4 % 255;
+    m = 255 - number % 253;
     for (i = 0; i < m; i++)
         code[i] = i < period ? random_letter(letters) : code[i - period];
     if (number % 2 == 1)

@@ -16,7 +16,7 @@ use Rattle.words.proofs.Largest.{Largest, largest-one, largest-same, largest-wi
 use Rattle.automaton.specs.declared.Step.{Step}
 use Rattle.automaton.specs.Arrows.{label, targets-from, forward, back-targets, arrows, try-forward, try-back, stepped, arrow-to}
 use Rattle.automaton.specs.Promise.{leads-to, Steps-right, State-next, Back-arrow, Targets-right, Targets-fall}
-use Rattle.automaton.proofs.Targets.{label-suc, targets-ind, Target, targets-fall, forward-inside, forward-end, back-range, target-range}
+use Rattle.automaton.proofs.Targets.{label-suc, targets-ind, Target, targets-from-fall, forward-inside, forward-end, back-range, target-range}
 use Rattle.automaton.proofs.Labels.{labelled, Lacks, Led, seen-lacks, lacks-none, labelled-nil, labelled-on, labelled-off, labelled-largest}
 use Rattle.automaton.proofs.Steps.{back-on, back-off, back-nil, forward-on, forward-zero, forward-cases, stepped-cases}
 
@@ -197,6 +197,6 @@ targets-right w p t fits = (
   leads-listed w p t fits,
 )
 
-pub back-falls : Targets-fall
+pub targets-fall : Targets-fall
 unfolding Targets-fall back-targets
-back-falls w p = targets-fall w p p (forward w p)
+targets-fall w p = targets-from-fall w p p (forward w p)

@@ -89,8 +89,8 @@ module _ (w : List ℕ) (p : ℕ) where
       (λ b ls f all. every-map (targets-from b w p ls) (target-higher b ls) all)
 
   -- the largest first
-  pub targets-fall : (b : ℕ) (ls : List ℕ) → Falling (targets-from b w p ls)
-  targets-fall =
+  pub targets-from-fall : (b : ℕ) (ls : List ℕ) → Falling (targets-from b w p ls)
+  targets-from-fall =
       targets-ind w p (λ b ls ts. Falling ts)
       (λ ls. tt)
       (λ b ls a f all. (

@@ -79,15 +79,11 @@ pub extern "C" fn entries_feed(
         Feed-told (now (sheet .entry)) (watch-from state taken hits compares) (lent (now (piece .entry)) (now (places .entry))) r
         (lent (now (piece .exit)) (now (places .exit))) ⌝ }
 {
-    fed_numbers(feed(
-        sheet,
-        Watch {
-            state: state,
-            taken: taken,
-            hits: hits,
-            compares: compares,
-        },
-        piece,
-        places,
-    ))
+    let watch = Watch {
+        state: state,
+        taken: taken,
+        hits: hits,
+        compares: compares,
+    };
+    fed_numbers(feed(sheet, watch, piece, places))
 }

@@ -44,7 +44,7 @@ abbrev pub Sent-or-told : (at : ℕ) → (bytes : List ℕ) → (ok : Bool) → 
 Sent-or-told at bs r after = Done-or-told r (Moved Sent at after bs) (Broken at after)
 
 -- a list begins with another
-pub record Start-of (xs ys : List ℕ) : Type 0 where
+pub record Prefix-of (xs ys : List ℕ) : Type 0 where
   pub rest : List ℕ
   pub is : ys ≡ xs ++ rest
 
@@ -96,7 +96,7 @@ pub record Stopped-in (prints : List ℕ → List ℕ) (at from after to : ℕ) 
   pub came : Moved Came at after bytes
   pub sent : Moved Sent from via out
   pub broken : Broken via to
-  pub starts : (rest : List ℕ) → Start-of out (prints (bytes ++ rest))
+  pub starts : (rest : List ℕ) → Prefix-of out (prints (bytes ++ rest))
 
 -- a search that was stopped
 abbrev pub Search-stopped : (sheet : List ℕ) → Watch → (at from after to : ℕ) → Type 0

@@ -25,6 +25,9 @@ const PRINTED: usize = 16 * PIECE + 75;
 // Room for one byte more than the longest code has.
 const KEPT: usize = codes::LONGEST as usize + 1;
 
+// Room for the sheet of the longest code.
+const SHEET: usize = 3 * (codes::LONGEST as usize) + 2;
+
 // Reads until a buffer is full or the input ends, whatever each read brings.
 fn read_full(came: &mut u64, buffer: &mut [u8]) -> Got
     ensures { λ r. ⌜ Got-into (length (now (buffer .entry))) (now (came .entry)) r (now (came .exit)) (now (buffer .exit)) ⌝ }
@@ -273,7 +276,7 @@ fn run(came: &mut u64, sent: &mut u64) -> bool
         return false;
     }
     let line = start.line;
-    let mut sheet = [0u8; 767];
+    let mut sheet = [0u8; SHEET];
     let number = prepare_line(line, &kept, &mut sheet);
     if number != 0 {
         return print_refusal(sent, number);

@@ -18,8 +18,12 @@ use Rattle.finder.specs.Feed.{completed, feed}
 use Rattle.finder.specs.Entry.{Lent, fed-call}
 
 -- t is the target at a place of the sheet: number i of the code's where that is the place of number i
-abbrev pub Target-at : (w : List ℕ) → (at t : ℕ) → Type 0
-Target-at w at t = (i : ℕ) → at ≡ target-place (length w) i → t ≡ getD (all-targets w) i 0
+abbrev pub Stands-at : (w : List ℕ) → (at t : ℕ) → Type 0
+Stands-at w at t = (i : ℕ) → at ≡ target-place (length w) i → t ≡ getD (all-targets w) i 0
+
+-- and behind that place comes the place of the next number
+abbrev pub Next-place : (at next : ℕ) → Type 0
+Next-place at n = (m i : ℕ) → at ≡ target-place m i → n ≡ target-place m (i + 1)
 
 -- a watch with which n bytes more can be taken, for a code of m bytes: no byte costs more than the longest code has bytes
 pub record Ready (m : ℕ) (x : Watch) (n : ℕ) : Type 0 where

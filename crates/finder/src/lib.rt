@@ -10,7 +10,7 @@ ghost use Rattle.codes.specs.Codes.{longest-code};
 ghost use Rattle.sheets.specs.Sheet.{target-place, named, begins};
 ghost use Rattle.finder.specs.Feed.{opened, fit};
 ghost use Rattle.finder.specs.Entry.{lent, feed-refusal, Feed-says};
-ghost use Rattle.finder.specs.Inside.{Target-at, Ready, Skipped, Turning, Come-to, Turned, Took};
+ghost use Rattle.finder.specs.Inside.{Stands-at, Next-place, Ready, Skipped, Turning, Come-to, Turned, Took};
 use automaton::Arrow;
 use automaton::Step;
 use runs::Ending;
@@ -61,7 +61,7 @@ pub struct Feeding {
     pub ending: Ending,
 }
 
-// READING A SHEET: only the next four functions know where its bytes are, and what they tell is told of the code.
+// READING A SHEET: only the next five functions know where its bytes are, and what they tell is told of the code.
 
 // The code's length.
 fn code_length(sheet: &[u8]) -> usize
@@ -90,9 +90,17 @@ fn after_targets(sheet: &[u8], m: usize, s: usize) -> usize
 // The target at a place of the sheet.
 fn target(sheet: &[u8], at: usize) -> usize
     requires { ⌜ (begins (now sheet) ≡ true) × (at < target-place (length (named (now sheet))) (back-arrows (named (now sheet)))) ⌝ }
-    ensures { λ r. ⌜ Target-at (named (now (sheet .entry))) at r ⌝ }
+    ensures { λ r. ⌜ Stands-at (named (now (sheet .entry))) at r ⌝ }
 {
     wide(sheet[at])
+}
+
+// The place of the next target.
+fn next_place(at: usize) -> usize
+    requires { ⌜ at < target-place longest-code longest-code ⌝ }
+    ensures { λ r. ⌜ (at < r) × Next-place at r ⌝ }
+{
+    at + 1
 }
 
 // The forward arrow of p, after `cost` labels were compared.
@@ -141,7 +149,7 @@ fn follow(sheet: &[u8], p: usize, byte: u8) -> Step
                 arrow: Arrow::Back(target),
             };
         }
-        at += 1;
+        at = next_place(at);
     }
     forward_step(sheet, m, p, byte, cost)
 }

@@ -3,10 +3,10 @@ use mathlib.Core.Path.{_≡_, _∙_, sym}
 use Prim.Native.Nat.{_+_, _-_, _≤_, _<_}
 use native.Mathlib.Numerals.{add-one}
 use native.Mathlib.Omega.{arith}
-use borrow.Author.Needs.{needs}
 use lib.ListN.{length, getD}
 use Rattle.automaton.specs.Arrows.{arrows, arrows-below, all-targets}
 use Rattle.automaton.proofs.Counts.{below-suc}
+use Rattle.automaton.proofs.FewArrows.{few-below}
 use Rattle.codes.specs.Codes.{longest-code}
 use Rattle.sheets.specs.Sheet.{target-place, named}
 use Rattle.sheets.proofs.Sheets.{begins-bounds}
@@ -94,20 +94,32 @@ returns c =
     let s = c .before .before in
     comparing-found (s .before .before .loop .inv .0) (going (s .before)) (s .target .result) (stands s) (sym (c .before .label .ensures) ∙ c .if1 .taken)
 
-add-at : tie.Need-add-at Inv-loop μ-loop
-add-at c = search needs
+next-place-requires : tie.Need-next-place-requires Inv-loop μ-loop
+next-place-requires c κs =
+    let v = c .before .before .before .before .loop .inv in
+    let a = c .before .before .before .before .before .before .before .before .before in
+    let w = named (a .args .sheet .now) in
+    omega (
+      arith,
+      v .1,
+      v .3,
+      going (c .before .before .before),
+      few-below w (a .args .p) (v .0 .ok),
+      below-suc w (a .args .p),
+      begins-bounds _ (a .pre .0),
+    )
 
 loop-less : tie.Need-loop-less Inv-loop μ-loop
-loop-less c = search needs
+loop-less c = omega (arith, c .next-place .ensures .0, c .before .before .before .before .loop-test .taken)
 
 loop-again : tie.Need-loop-again Inv-loop μ-loop
 loop-again c =
-    let s = c .before .before in
+    let s = c .before .before .before in
     let v = s .before .before .loop .inv in (
-      comparing-next (v .0) (going (s .before)) (s .target .result) (stands s) (λ e. c .if1 .left (c .before .label .ensures ∙ e)),
+      comparing-next (v .0) (going (s .before)) (s .target .result) (stands s) (λ e. c .before .if1 .left (c .before .before .label .ensures ∙ e)),
       v .1,
       v .2,
-      omega (arith, v .3),
+      omega (arith, c .next-place .ensures .1 _ _ (v .3)),
     )
 
 forward-step-requires : tie.Need-forward-step-requires Inv-loop μ-loop
@@ -137,7 +149,7 @@ follow-spec =
     label-requires
     cast-target
     returns
-    add-at
+    next-place-requires
     loop-less
     loop-again
     forward-step-requires
