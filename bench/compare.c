@@ -15,6 +15,7 @@ enum { BEFORE, AFTER, BUILDS };
 enum {
     COPIES = 4,       /* of a build */
     LINE = 64,        /* bytes to a cache line */
+    CALLS = 4000,     /* feedings to a timing of small pieces */
     PREPARED = 20000, /* bytes of a code to a timing of preparing */
     MORE = 10,        /* rounds of preparing to one of feeding: they are shorter */
 };
@@ -45,6 +46,12 @@ static double time_feeding(int build, int copy)
 
     feed_text(feeders[build][copy], &s, 0);
     return (cpu_now() - start) / (double)s.n * 1e9;
+}
+
+/* The same for each feeding. */
+static double time_call(int build, int copy)
+{
+    return time_feeding(build, copy) * (double)s.piece;
 }
 
 /* Codes of all shapes and of one length. */
@@ -134,9 +141,9 @@ static void print_head(const char *title, const char *name, const char *code_nam
     printf("\n## %s\n\n| %-19s | %-17s | %7s | %7s | %12s |\n|---|---|--:|--:|--:|\n", title, name, code_name, "before", "after", "before/after");
 }
 
-static void print_end(const struct table *t)
+static void print_end(const struct table *t, double aim)
 {
-    printf("\nbefore/after: smallest %.3f (aim 0.97), geometric mean %.3f.\n", t->ratios.smallest, mean_ratio(&t->ratios));
+    printf("\nbefore/after: smallest %.3f (aim %.2f), geometric mean %.3f.\n", t->ratios.smallest, aim, mean_ratio(&t->ratios));
 }
 
 static void compare_feeding(struct table t)
@@ -148,7 +155,32 @@ static void compare_feeding(struct table t)
         agree_on_text(j->text_name);
         add_row(&t, j->text_name, j->code_name, time_feeding);
     }
-    print_end(&t);
+    print_end(&t, 0.97);
+}
+
+/* Here a feeding is nearly all test of its sheet. */
+static void compare_small_pieces(struct table t)
+{
+    static const size_t pieces[] = {1, 16};
+    size_t n = s.n;
+    char name[32];
+
+    print_head("Small pieces", "Text", "Code, piece");
+    for (const struct job *j = jobs; j->make; j++) {
+        if (!j->small)
+            continue;
+        set_up(&s, j, preparers[AFTER][0]);
+        for (size_t k = 0; k < sizeof pieces / sizeof *pieces; k++) {
+            s.piece = pieces[k];
+            s.n = CALLS * s.piece;
+            agree_on_text(j->text_name);
+            snprintf(name, sizeof name, "%s, %zu", j->code_name, s.piece);
+            add_row(&t, j->text_name, name, time_call);
+            s.n = n;
+            s.piece = PIECE;
+        }
+    }
+    print_end(&t, 0.67);
 }
 
 static void compare_preparing(struct table t)
@@ -166,7 +198,7 @@ static void compare_preparing(struct table t)
         snprintf(length, sizeof length, "%zu", m);
         add_row(&t, "one of each shape", length, time_preparing);
     }
-    print_end(&t);
+    print_end(&t, 0.97);
 }
 
 int main(int argc, char **argv)
@@ -185,9 +217,10 @@ int main(int argc, char **argv)
     check_copies();
 
     compare_feeding(t);
+    compare_small_pieces(t);
     compare_preparing(t);
-    printf("\nNanoseconds of processor time for each byte of a text (%.0f MB, pieces of %d bytes, a list of %d places) or of a code, best of %d rounds "
-           "(codes: %d).\n"
+    printf("\nNanoseconds of processor time for each byte of a text (%.0f MB, pieces of %d bytes, a list of %d places), each feeding of a small piece, or each "
+           "byte of a code, best of %d rounds (codes: %d).\n"
            "before/after: the median of the rounds; over 1 it is faster now. In a round the fastest of a build's %d copies counts.\n"
            "Sheets, places, comparisons and watches are the same before and after.\n",
            (double)s.n / 1e6, PIECE, LIST, t.rounds, t.rounds * MORE, COPIES);

@@ -12,6 +12,7 @@
 
 enum { DEAREST_IN = 1 << 20 }; /* bytes among which the dearest is looked for */
 
+static const double twice = 1.9; /* so many comparisons for each byte of a text are about twice those that KMP makes */
 static const double patience = 2.0; /* a finder that has used so many seconds on a text is not run on it again */
 
 /* The finders, in the table's order. */
@@ -234,7 +235,7 @@ static void print_notes(int rounds)
            rounds, patience, (double)s.n / 1e6);
     printf("Rattle/C: Rattle's speed to the C twin's, the median of the rounds.\n");
     printf("Rattle, C twin, KMP: in memory, pieces of %d bytes, a list of %d places. Rattle and the twin verify the sheet at each call; KMP trusts its links.\n"
-           "In state 0 Rattle looks at four bytes a turn, the twin at one.\n",
+           "The twin takes a byte a turn; Rattle has loops for states 0, 1 and m and for forward arrows in a row, and makes the same comparisons.\n",
            PIECE, LIST);
     printf("memmem: glibc's, in memory, the whole text, on from one byte behind each place. All four report overlapping places, and report the same ones.\n");
     printf("grep -F -o -b -a and rg with the same options: whole processes that read a file and print, in lines; of overlapping places they report only "
@@ -249,6 +250,7 @@ int main(int argc, char **argv)
     int present[FINDERS] = {1, 1, 1, 1, 0, 0};
     struct ratios ratios = {0};
     double on_one_letter = 0;
+    double to_kmp = HUGE_VAL;
 
     if (argc < 4)
         stop("usage: search MB ROUNDS FILE [grep] [rg]", "");
@@ -276,11 +278,16 @@ int main(int argc, char **argv)
         double ratio = measure(present, rounds, best);
         print_row(j, &r, best, ratio, present);
         add_ratio(&ratios, ratio);
+        if ((double)r.compares < twice * (double)s.n)
+            to_kmp = fmin(to_kmp, best[KMP] / best[RATTLE]);
         if (j->make == one_letter && s.m == 255)
             on_one_letter = best[MEMMEM] / best[RATTLE];
     }
     print_notes(rounds);
-    printf("\nRattle/C: geometric mean %.2f (aim 1.10), smallest %.2f (aim 0.95).\n", mean_ratio(&ratios), ratios.smallest);
+    printf("\nRattle/C: geometric mean %.2f (aim 2.00), smallest %.2f (aim 1.00).\n", mean_ratio(&ratios), ratios.smallest);
+    printf("Rattle's speed to KMP's: smallest %.2f (aim 0.90) where fewer than %.1f comparisons are made for a byte; KMP, which compares the forward label first, "
+           "makes about half of them elsewhere.\n",
+           to_kmp, twice);
     printf("Rattle's speed to memmem's on a^255 in a^n: %.0f times (aim 10).\n", on_one_letter);
     return 0;
 }

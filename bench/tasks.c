@@ -6,21 +6,21 @@
 #include "process.h"
 
 const struct job jobs[] = {
-    {"plan", plan_text, "R1234", "R1234", NULL, 0},
-    {"plan", plan_text, "R9999Z", "R9999Z", NULL, 0},
-    {"plan", plan_text, "PLUM-CAKE-77", "PLUM-CAKE-77", NULL, 0},
-    {"plan", plan_text, "-04-", "-04-", NULL, 0},
-    {"plan", plan_text, " rye 1235 g", " rye 1235 g", NULL, 0},
-    {"a^n", one_letter, "a", "a", NULL, 0},
-    {"a^n", one_letter, "a^255", NULL, one_letter, 255},
-    {"(ab^254)*", ab_text, "ab^254", NULL, ab_text, 255},
-    {"Fibonacci", fibonacci_word, "its first 233", NULL, fibonacci_word, 233},
-    {"ruler", ruler_word, "its first 255", NULL, ruler_word, 255},
-    {"ruler, unknown byte", ruler_unknown, "ruler's first 255", NULL, ruler_word, 255},
-    {"random, 2 letters", random_2, "abbabaab", "abbabaab", NULL, 0},
-    {"random, 2 letters", random_2, "a^16", NULL, one_letter, 16},
-    {"random, 4 letters", random_4, "abcdabca", "abcdabca", NULL, 0},
-    {"random bytes", random_256, "8 of its bytes", NULL, NULL, 8},
+    {"plan", plan_text, "R1234", "R1234", NULL, 0, 1},
+    {"plan", plan_text, "R9999Z", "R9999Z", NULL, 0, 0},
+    {"plan", plan_text, "PLUM-CAKE-77", "PLUM-CAKE-77", NULL, 0, 0},
+    {"plan", plan_text, "-04-", "-04-", NULL, 0, 0},
+    {"plan", plan_text, " rye 1235 g", " rye 1235 g", NULL, 0, 0},
+    {"a^n", one_letter, "a", "a", NULL, 0, 1},
+    {"a^n", one_letter, "a^255", NULL, one_letter, 255, 0},
+    {"(ab^254)*", ab_text, "ab^254", NULL, ab_text, 255, 0},
+    {"Fibonacci", fibonacci_word, "its first 233", NULL, fibonacci_word, 233, 0},
+    {"ruler", ruler_word, "its first 255", NULL, ruler_word, 255, 1},
+    {"ruler, unknown byte", ruler_unknown, "ruler's first 255", NULL, ruler_word, 255, 0},
+    {"random, 2 letters", random_2, "abbabaab", "abbabaab", NULL, 0, 1},
+    {"random, 2 letters", random_2, "a^16", NULL, one_letter, 16, 0},
+    {"random, 4 letters", random_4, "abcdabca", "abcdabca", NULL, 0, 0},
+    {"random bytes", random_256, "8 of its bytes", NULL, NULL, 8, 0},
     {0},
 };
 
@@ -29,6 +29,7 @@ void take_memory(struct search *s, const char *millions)
     s->n = (size_t)strtoul(millions, NULL, 10) * 1000000;
     if (s->n == 0 || s->n > UINT32_MAX)
         stop("from 1 to 4294 MB", "");
+    s->piece = PIECE;
     s->text = malloc(s->n);
     if (!s->text)
         stop("no memory for the text", "");
@@ -103,7 +104,7 @@ struct found feed_text(feeder *feed, const struct search *s, int checking)
     size_t at = 0;
 
     while (at < s->n) {
-        size_t length = s->n - at < PIECE ? s->n - at : PIECE;
+        size_t length = s->n - at < s->piece ? s->n - at : s->piece;
         f = feed(s->sheet, s->sheet_length, f.state, f.taken, f.hits, f.compares, s->text + at, length, places, room);
         if (f.refusal != 0)
             stop("a feeding was refused", "");

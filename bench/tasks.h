@@ -6,7 +6,7 @@
 #include "texts.h"
 
 enum {
-    PIECE = 4096, /* bytes of text to a feeding */
+    PIECE = 4096, /* bytes of text to a feeding, as a rule */
     LIST = 4096,  /* places to a feeding */
     SHORT = 61,   /* the same where places are checked, so that the list is full at times */
 };
@@ -19,6 +19,7 @@ struct job {
     const char *word;
     text_maker *code_maker;
     size_t m;
+    int small; /* measured in small pieces too */
 };
 
 extern const struct job jobs[]; /* behind the last one is one without a text */
@@ -28,13 +29,14 @@ struct search {
     text_maker *made; /* the text's maker */
     uint8_t *text;
     size_t n;
+    size_t piece; /* bytes to a feeding */
     uint8_t code[LONGEST_CODE + 1]; /* with a zero byte behind it */
     size_t m;
     uint8_t sheet[SHEET_ROOM];
     size_t sheet_length;
 };
 
-/* Takes memory for the text, so many millions of bytes. */
+/* Takes memory for the text, so many millions of bytes, to be fed in pieces of the usual length. */
 void take_memory(struct search *s, const char *millions);
 
 /* Makes the text, if another one was there before, the code, and its sheet. Answers whether it made a text. */

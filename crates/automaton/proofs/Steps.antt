@@ -1,11 +1,12 @@
 -- Steps by cases, what they cost and how far they lead. Assumes nothing.
-use mathlib.Core.Path.{_≡_, refl}
+use mathlib.Core.Path.{_≡_, refl, _∙_}
 use mathlib.Core.Logic.{_≢_}
 use mathlib.Core.List.{List, [], _∷_, _++_, map}
-use Prim.Native.Nat.{ℕ, suc, _+_, _-_, _≤_, _<_}
+use Prim.Native.Nat.{ℕ, zero, suc, _+_, _-_, _≤_, _<_}
+use native.Mathlib.Nat.{add-zero}
 use native.Mathlib.Omega.{arith}
 use lib.Dec.{ltb, eqb}
-use lib.ListN.{length}
+use lib.ListN.{length, getD, drop}
 use borrow.Author.Tests.{ltb-true, ltb-false, lt-ltb, le-ltb, eqb-true, eq-eqb, ne-eqb}
 use Rattle.words.specs.Words.{byte, Every}
 use Rattle.words.proofs.Tests.{by-test}
@@ -28,6 +29,31 @@ module _ (t : ℕ) (ts : List ℕ) (k : ℕ) (w : List ℕ) (p c : ℕ) where
 pub back-nil : (k : ℕ) (w : List ℕ) (p c : ℕ) → try-back [] k w p c ≡ try-forward k w p c
 unfolding try-back
 back-nil k w p c = refl
+
+-- labels that are not equal are passed
+pub back-passed : (n : ℕ) (ts : List ℕ) (k : ℕ) (w : List ℕ) (p c : ℕ) → n ≤ length ts → ((j : ℕ) → j < n → label w (getD ts j 0) ≢ c) →
+    try-back ts k w p c ≡ try-back (drop n ts) (k + n) w p c
+back-passed zero ts k w p c h others = rw (add-zero k) refl
+back-passed (suc n) [] k w p c h others = absurd (omega arith)
+back-passed (suc n) (t ∷ ts) k w p c h others =
+    let at : suc k + n ≡ k + suc n = omega arith in
+    back-off t ts k w p c (others 0 (omega arith))
+    ∙ back-passed n ts (suc k) w p c (omega arith) (λ j l. others (suc j) (omega arith))
+    ∙ rw at refl
+
+-- A STATE with no backward arrow, or one
+module _ (w : List ℕ) (p c : ℕ) where
+  pub step-none : back-targets w p ≡ [] → stepped w p c ≡ try-forward 0 w p c
+  unfolding stepped
+  step-none e = rw e (back-nil 0 w p c)
+
+  pub step-one : (t : ℕ) → back-targets w p ≡ t ∷ [] → label w t ≡ c → stepped w p c ≡ step t 1 (Back t)
+  unfolding stepped
+  step-one t e f = rw e (back-on t [] 0 w p c f)
+
+  pub step-not-one : (t : ℕ) → back-targets w p ≡ t ∷ [] → label w t ≢ c → stepped w p c ≡ try-forward 1 w p c
+  unfolding stepped
+  step-not-one t e n = rw e (back-off t [] 0 w p c n ∙ back-nil 1 w p c)
 
 module _ (k : ℕ) (w : List ℕ) (p c : ℕ) where
   pub forward-on : p < length w → byte w p ≡ c → try-forward k w p c ≡ step (suc p) (suc k) Forward

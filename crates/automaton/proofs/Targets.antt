@@ -2,7 +2,8 @@
 use mathlib.Core.Path.{_≡_, refl, ap, _∙_}
 use mathlib.Core.Bool.{Bool, true, false, _&&_, not, cond}
 use mathlib.Core.List.{List, [], _∷_}
-use Prim.Native.Nat.{ℕ, zero, suc, _-_, _≤_, _<_}
+use Prim.Native.Nat.{ℕ, zero, suc, _+_, _-_, _≤_, _<_}
+use native.Mathlib.Numerals.{add-one}
 use native.Mathlib.Omega.{arith}
 use lib.Dec.{eqb}
 use lib.ListN.{length}
@@ -16,6 +17,9 @@ use Rattle.automaton.specs.Arrows.{label, targets-from, forward, back-ta
 pub label-suc : (w : List ℕ) (b : ℕ) → label w (suc b) ≡ byte w b
 unfolding label
 label-suc w b = let at : suc b - 1 ≡ b = omega arith in ap (byte w) at
+
+pub label-next : (w : List ℕ) (p : ℕ) → label w (p + 1) ≡ byte w p
+label-next w p = rw (add-one p) (label-suc w p)
 
 pub targets-none : (w : List ℕ) (p : ℕ) (ls : List ℕ) → targets-from 0 w p ls ≡ []
 unfolding targets-from
@@ -155,3 +159,12 @@ target-range w p =
 pub back-zero : (w : List ℕ) → back-targets w 0 ≡ []
 unfolding back-targets targets-from
 back-zero w = refl
+
+-- of state 1 at most one, to 1 again
+pub back-one : (w : List ℕ) → 1 ≤ length (back-targets w 1) → back-targets w 1 ≡ 1 ∷ []
+unfolding back-targets targets-from
+back-one w = go (is-border w 1 0 && not (member (byte w 0) (forward w 1)))
+  where
+    go : (t : Bool) → 1 ≤ length (cond {A = List ℕ} t (1 ∷ []) []) → cond {A = List ℕ} t (1 ∷ []) [] ≡ 1 ∷ []
+    go true h = refl
+    go false h = absurd (omega arith)

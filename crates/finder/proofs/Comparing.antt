@@ -2,69 +2,81 @@
 use mathlib.Core.Path.{_≡_, refl, sym, ap, _∙_}
 use mathlib.Core.Logic.{_≢_}
 use mathlib.Core.List.{List, _∷_}
-use Prim.Native.Nat.{ℕ, suc, _+_, _≤_, _<_}
+use Prim.Native.Nat.{ℕ, zero, suc, _+_, _-_, _≤_, _<_}
 use native.Mathlib.Numerals.{add-one}
 use native.Mathlib.Omega.{arith}
 use lib.ListN.{length, getD, drop, drop-of-length-le}
 use lib.Seq.{drop-cons}
+use Rattle.words.proofs.Tests.{by-le}
 use Rattle.words.proofs.Lists.{every-at}
 use Rattle.automaton.specs.declared.Arrow.the-variants.{Back}
-use Rattle.automaton.specs.Arrows.{label, back-targets, arrows, arrows-below, all-targets, back-arrows, step, try-forward, try-back, stepped}
+use Rattle.automaton.specs.Arrows.{label, back-targets, arrows, arrows-below, back-arrows, step, try-forward, try-back, stepped}
 use Rattle.automaton.proofs.Targets.{target-range}
-use Rattle.automaton.proofs.Counts.{below-suc, below-rises, target-at}
-use Rattle.automaton.proofs.FewArrows.{few-below}
-use Rattle.automaton.proofs.Steps.{back-on, back-off, back-nil}
-use Rattle.codes.specs.Codes.{longest-code}
+use Rattle.automaton.proofs.Counts.{below-zero, below-suc, below-rises, target-at}
+use Rattle.automaton.proofs.Steps.{back-on, back-nil, back-passed}
+use Rattle.finder.specs.declared.Sought.the-variants.{At, Nowhere}
+use Rattle.finder.specs.Inside.{Passed, target-of, Sought-by}
 
--- `cost` labels of state p were compared, and none of them was c
-pub record Comparing (w : List ℕ) (p c cost : ℕ) : Type 0 where
-  pub ok : p ≤ length w
-  pub few : arrows w p ≤ longest-code
-  pub within : cost ≤ arrows w p
-  pub so-far : stepped w p c ≡ try-back (drop cost (back-targets w p)) cost w p c
+-- every target is a state, and not 0
+module _ (w : List ℕ) where
+  -- number n of a state's targets
+  target-here : (p n : ℕ) → p ≤ length w → n < arrows w p → target-of w (arrows-below w p + n) ≡ getD (back-targets w p) n 0
+  target-here p n ok h = target-at w (suc (length w)) p n (omega arith) h
 
-pub comparing-start : {w : List ℕ} (p c : ℕ) → p ≤ length w → length w ≤ longest-code → Comparing w p c 0
-unfolding stepped
-comparing-start {w} p c ok short =
-    record { ok = ok; few = omega (arith, below-suc w p, few-below w p ok); within = omega arith; so-far = refl }
+  below-inside : (s l : ℕ) → s ≤ suc (length w) → l < arrows-below w s → (1 ≤ target-of w l) × (target-of w l ≤ length w)
+  below-inside zero l h i = absurd (omega (arith, below-zero w))
+  below-inside (suc p) l h i =
+      by-le (arrows-below w p) l
+      (λ (a : arrows-below w p ≤ l).
+      let n : ℕ = l - arrows-below w p in
+      let here : n < arrows w p = omega (arith, below-suc w p) in
+      let at : arrows-below w p + n ≡ l = omega arith in
+      let r = every-at (λ u. (1 ≤ u) × (u ≤ p)) (back-targets w p) n (target-range w p) here in
+      let e : target-of w l ≡ getD (back-targets w p) n 0 = ap (target-of w) (sym at) ∙ target-here p n (omega arith) here in
+      rw e (r .0, omega (arith, r .1)))
+      (λ (a : l < arrows-below w p). below-inside p l (omega arith) a)
 
-module _ {w : List ℕ} {p c cost : ℕ} (s : Comparing w p c cost) where
-  abbrev targets : List ℕ
-  targets = back-targets w p
+  pub target-inside : (l : ℕ) → l < back-arrows w → (1 ≤ target-of w l) × (target-of w l ≤ length w)
+  target-inside l h = below-inside (suc (length w)) l (omega arith) h
 
-  pub comparing-end : arrows w p ≤ cost → stepped w p c ≡ try-forward cost w p c
-  comparing-end h =
-      s .so-far ∙ ap (λ ts. try-back ts cost w p c) (drop-of-length-le targets {i = cost} h) ∙ back-nil cost w p c
+-- A STATE p: its targets have the numbers from one up to another
+module _ (w : List ℕ) (p : ℕ) (ok : p ≤ length w) (from to : ℕ) (e : from ≡ arrows-below w p) (f : to ≡ arrows-below w (p + 1)) where
+  to-is : to ≡ from + arrows w p
+  to-is = f ∙ ap (arrows-below w) (add-one p) ∙ below-suc w p ∙ rw e refl
 
-  -- one more
-  module _ (here : cost < arrows w p) where
-    pub next-listed : arrows-below w p + cost < back-arrows w
-    next-listed = omega (arith, here, s .ok, below-suc w p, below-rises w (suc p) (suc (length w)) (omega (arith, s .ok)))
+  pub state-rise : (from ≤ to) × (to ≤ back-arrows w)
+  state-rise =
+      let up : arrows-below w (p + 1) ≤ back-arrows w = below-rises w (p + 1) (suc (length w)) (omega arith) in
+      (omega (arith, to-is), omega (arith, f, up))
 
-    left-is : drop cost targets ≡ getD targets cost 0 ∷ drop (cost + 1) targets
-    left-is = rw (add-one cost) (drop-cons targets cost 0 here)
+  here : (n : ℕ) → n < arrows w p → target-of w (from + n) ≡ getD (back-targets w p) n 0
+  here n h = rw e (target-here w p n ok h)
 
-    -- with the target that stands there
-    module _ (t : ℕ) (e : t ≡ getD (all-targets w) (arrows-below w p + cost) 0) where
-      t-is : t ≡ getD targets cost 0
-      t-is = e ∙ target-at w (suc (length w)) p cost (omega (arith, s .ok)) here
+  -- n of its labels were compared, and none was c
+  others : (c n : ℕ) → n ≤ arrows w p → Passed (λ k. label w (target-of w k) ≢ c) from (from + n) →
+      stepped w p c ≡ try-back (drop n (back-targets w p)) n w p c
+  unfolding stepped
+  others c n h q =
+      let at : 0 + n ≡ n = omega arith in
+      rw at at
+      (back-passed n (back-targets w p) 0 w p c h
+      (λ j l z. q .all (from + j) (omega arith) (omega arith) (ap (label w) (here j (omega arith)) ∙ z)))
 
-      pub next-inside : (1 ≤ t) × (t ≤ length w)
-      next-inside =
-          let r = every-at (λ u. (1 ≤ u) × (u ≤ p)) targets cost (target-range w p) here in
-          rw t-is (r .0, omega (arith, r .1, s .ok))
+  -- ALL of them: the forward one decides
+  pub compared-none : (c : ℕ) → Sought-by w from to c Nowhere → stepped w p c ≡ try-forward (to - from) w p c
+  compared-none c q =
+      let n : ℕ = arrows w p in
+      let n-is : to - from ≡ n = omega (arith, to-is) in
+      others c n (omega arith) (rw (← to-is) q)
+      ∙ rw (drop-of-length-le (back-targets w p) {i = n} (omega arith), n-is) (back-nil n w p c)
 
-      step-is : stepped w p c ≡ try-back (t ∷ drop (cost + 1) targets) cost w p c
-      step-is = s .so-far ∙ ap (λ ts. try-back ts cost w p c) left-is ∙ ap (λ u. try-back (u ∷ drop (cost + 1) targets) cost w p c) (sym t-is)
-
-      pub comparing-found : label w t ≡ c → step t (cost + 1) (Back t) ≡ stepped w p c
-      comparing-found f = rw (add-one cost) (sym (step-is ∙ back-on t (drop (cost + 1) targets) cost w p c f))
-
-      pub comparing-next : label w t ≢ c → Comparing w p c (cost + 1)
-      comparing-next n =
-          record {
-            ok = s .ok;
-            few = s .few;
-            within = omega arith;
-            so-far = step-is ∙ back-off t (drop (cost + 1) targets) cost w p c n ∙ ap (λ k. try-back (drop (cost + 1) targets) k w p c) (sym (add-one cost));
-          }
+  -- up to one that is c
+  pub compared-at : (c l t : ℕ) → Sought-by w from to c (At l) → t ≡ target-of w l → stepped w p c ≡ step t (suc (l - from)) (Back t)
+  compared-at c l t q g =
+      let n : ℕ = l - from in
+      let on : from ≤ l = q .0 .on in
+      let at : from + n ≡ l = omega arith in
+      let inside : n < arrows w p = omega (arith, q .1, to-is) in
+      let is : getD (back-targets w p) n 0 ≡ t = sym (g ∙ ap (target-of w) (sym at) ∙ here n inside) in
+      others c n (omega arith) (rw at (q .0))
+      ∙ rw (drop-cons (back-targets w p) n 0 inside, is) (back-on t (drop (suc n) (back-targets w p)) n w p c (ap (label w) g ∙ q .2))

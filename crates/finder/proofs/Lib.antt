@@ -5,11 +5,12 @@ pub mod Fitness
 pub mod Refusing
 pub mod Endings
 pub mod Entries
+pub mod Passing
 pub mod Comparing
-pub mod Skipping
 pub mod Leading
-pub mod Turns
+pub mod Forwards
 pub mod Walking
 pub mod Starting
+pub mod Repeating
 pub mod Taking
 pub mod CallSamples

@@ -64,10 +64,14 @@ module _ (m q n : ℕ) where
   unfolding completed
   completed-none d = found.place-none (eqb q m) (n - m) (ne-eqb q m d)
 
+  pub completed-few : length (completed m q n) ≤ 1
+  unfolding completed
+  completed-few = found.place-one (eqb q m) (n - m)
+
 -- a byte reports none or one
 pub reported-one : (w : List ℕ) (c : ℕ) (x : Watch) → length (reported w c x) ≤ 1
-unfolding reported completed
-reported-one w c x = found.place-one (eqb (stepped w (x .state) c .state) (length w)) (suc (x .taken) - length w)
+unfolding reported
+reported-one w c x = completed-few (length w) (stepped w (x .state) c .state) (suc (x .taken))
 
 -- so a list with a place for each byte takes the whole piece
 pub feed-whole : (w cs : List ℕ) (k : ℕ) (x : Watch) → length cs ≤ k → feed w cs k x .taken ≡ length cs

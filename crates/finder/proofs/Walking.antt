@@ -1,6 +1,6 @@
--- A turn's bytes so far: they lead to a state at a cost, and only the last of them may have completed a place. Assumes nothing.
+-- Bytes read from a state of 1 or more: a step, and stretches behind it where no place is complete. Assumes nothing.
 use mathlib.Core.Path.{_≡_}
-use mathlib.Core.List.{List, []}
+use mathlib.Core.List.{List}
 use Prim.Native.Nat.{ℕ, _+_, _*_, _-_, _≤_, _<_}
 use native.Mathlib.Omega.{arith}
 use lib.ListN.{length, getD}
@@ -10,64 +10,45 @@ use Rattle.automaton.specs.Arrows.{stepped}
 use Rattle.codes.specs.Codes.{longest-code}
 use Rattle.sheets.specs.Sheet.{named}
 use Rattle.sheets.proofs.Sheets.{begins-bounds}
-use Rattle.finder.specs.declared.Turn.{Turn}
-use Rattle.finder.specs.Feed.{completed}
-use Rattle.finder.specs.Inside.{Turning, Leads, Come-to, Turned}
-use Rattle.finder.proofs.Places.{completed-none}
+use Rattle.finder.specs.declared.Led.{Led}
+use Rattle.finder.specs.Inside.{Leads, Led-from, Readable}
 use Rattle.finder.proofs.Leading.{step-cheap, leads-byte, leads-on}
 
 -- from place i in state p to place j in state q, at a cost of c
-pub record So-far (bs : List ℕ) (m before p : ℕ) (piece : List ℕ) (i q c j : ℕ) : Type 0 where
-  pub began : Turning bs m before p piece i
+pub record Walked (bs : List ℕ) (m p : ℕ) (piece : List ℕ) (i q c j : ℕ) : Type 0 where
+  pub began : Readable bs m p piece i
   pub later : i < j
-  pub leads : Leads (named bs) piece before p i q c j (completed m q (before + j))
+  pub leads : Leads (named bs) piece p i q c j
 
-module _ {bs : List ℕ} {m before p : ℕ} {piece : List ℕ} {i q c j : ℕ} (s : So-far bs m before p piece i q c j) where
-  pub so-turned : (t : Turn) → Come-to m before q c j t → Turned (named bs) piece before p i t
-  so-turned t e =
-      record { later = omega (arith, s .later, e .at); leads = rw (e .state, e .cost, e .at, e .found) (s .leads) }
-
-  -- what the casts, sums and calls need
-  pub so-bounds :
-      (i < j) × (j ≤ length piece) × (q ≤ m) × (q ≤ before + j) × (before + j ≤ longest-text) × (c ≤ longest-code * length piece)
-      × (length piece ≤ longest-text)
-  so-bounds =
-      let l = s .leads in
-      let on : i ≤ j = l .on in (
-        s .later,
-        l .within,
-        omega (arith, l .state, s .began .m-is),
-        l .reached,
-        omega (arith, l .within, s .began .text),
-        omega (arith, l .cheap, l .within),
-        omega (arith, s .began .text),
-      )
-
--- A STEP is the first byte, or one more where no place is complete
-pub so-first : {bs : List ℕ} {m before p : ℕ} {piece : List ℕ} {i : ℕ} → Turning bs m before p piece i → (s : Step) →
-    s ≡ stepped (named bs) p (getD piece i 0) → So-far bs m before p piece i (s .state) (s .cost) (i + 1)
-so-first {bs} {m} {before} {p} {piece} {i} g s e =
+pub walked-step : {bs : List ℕ} {m p : ℕ} {piece : List ℕ} {i : ℕ} → Readable bs m p piece i → (s : Step) →
+    s ≡ stepped (named bs) p (getD piece i 0) → Walked bs m p piece i (s .state) (s .cost) (i + 1)
+walked-step {bs} {m} {p} {piece} {i} g s e =
     let w : List ℕ = named bs in
-    let low : p ≤ length w = omega (arith, g .state, g .m-is) in
+    let low : p ≤ length w = omega (arith, g .state, g .sheet .m-is) in
     record {
       began = g;
       later = omega arith;
-      leads =
-          rw (g .m-is)
-          (leads-byte w piece before p i low (g .reached) (g .inside) s e (rw e (step-cheap w p (getD piece i 0) low (begins-bounds bs (g .on) .1))));
+      leads = leads-byte w piece p i low (g .inside) s e (rw e (step-cheap w p (getD piece i 0) low (begins-bounds bs (g .sheet .on) .1)));
     }
 
-module _ {bs : List ℕ} {m before p : ℕ} {piece : List ℕ} {i q c j : ℕ} where
-  -- behind bytes that completed no place
-  pub so-on : (g : Turning bs m before p piece i) → i < j + 1 → Leads (named bs) piece before p i q c j [] → j < length piece → (s : Step) →
-      s ≡ stepped (named bs) q (getD piece j 0) → So-far bs m before p piece i (s .state) (c + s .cost) (j + 1)
-  so-on g h l inside s e =
-      let next : Turning bs m before q piece j =
-      record { on = g .on; m-is = g .m-is; inside = inside; state = omega (arith, l .state, g .m-is); reached = l .reached; text = g .text } in
-      record { began = g; later = h; leads = leads-on (named bs) piece before l (so-first next s e .leads) }
+module _ {bs : List ℕ} {m p : ℕ} {piece : List ℕ} {i q c j : ℕ} (s : Walked bs m p piece i q c j) where
+  -- what sums and calls need
+  pub walked-bounds : (q ≤ m) × (j ≤ length piece) × (c ≤ longest-code * length piece) × (length piece ≤ longest-text)
+  walked-bounds =
+      let l = s .leads in
+      let on : i ≤ j = l .on in
+      (omega (arith, l .state, s .began .sheet .m-is), l .within, omega (arith, l .cheap, l .within), s .began .text)
 
-  pub so-more : So-far bs m before p piece i q c j → j < length piece → q < m → (s : Step) → s ≡ stepped (named bs) q (getD piece j 0) →
-      So-far bs m before p piece i (s .state) (c + s .cost) (j + 1)
-  so-more f inside short s e =
-      let none : completed m q (before + j) ≡ [] = completed-none m q (before + j) (λ z. omega (arith, z)) in
-      so-on (f .began) (omega (arith, f .later)) (rw none at (f .leads)) inside s e
+  -- one stretch more
+  module _ (inside : j < length piece) (short : q < m) where
+    pub walked-reading : Readable bs m q piece j
+    walked-reading =
+        record { sheet = s .began .sheet; state = omega arith; inside = inside; text = s .began .text }
+
+    pub walked-more : (t : Led) → Led-from (named bs) piece q j t → Walked bs m p piece i (t .state) (c + t .cost) (t .at)
+    walked-more t v =
+        record {
+          began = s .began;
+          later = omega (arith, s .later, v .later);
+          leads = leads-on (named bs) piece (s .leads) (omega (arith, s .began .sheet .m-is)) (v .leads);
+        }

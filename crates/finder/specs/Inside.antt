@@ -1,29 +1,180 @@
 -- What the private functions of this crate need and promise. Assumes nothing: these are definitions.
 use mathlib.Core.Path.{_≡_}
 use mathlib.Core.Bool.{true}
-use mathlib.Core.List.{List, [], _∷_}
+use mathlib.Core.List.{List, [], _∷_, _++_}
 use mathlib.Core.Logic.{_≢_}
-use Prim.Native.Nat.{ℕ, suc, _+_, _*_, _-_, _^_, _≤_, _<_}
-use lib.ListN.{length, getD, drop}
+use Prim.Native.Nat.{ℕ, zero, suc, _+_, _*_, _-_, _^_, _≤_, _<_, min}
+use lib.ListN.{length, getD, take, drop}
 use Rattle.runs.specs.Reading.{longest-text, fed-more}
-use Rattle.automaton.specs.Arrows.{all-targets}
+use Rattle.automaton.specs.declared.Arrow.{Arrow}
+use Rattle.automaton.specs.declared.Arrow.the-variants.{Back, Forward, Nothing}
+use Rattle.automaton.specs.Arrows.{label, all-targets, arrows, step, try-forward, stepped}
 use Rattle.codes.specs.Codes.{longest-code}
-use Rattle.sheets.specs.Sheet.{target-place, named, begins}
+use Rattle.sheets.specs.Sheet.{named, begins}
 use Rattle.finder.specs.declared.Watch.{Watch}
-use Rattle.finder.specs.declared.Found.{Found}
-use Rattle.finder.specs.declared.Found.the-variants.{At, Nothing}
-use Rattle.finder.specs.declared.Turn.{Turn}
 use Rattle.finder.specs.declared.Feeding.{Feeding}
+use Rattle.finder.specs.declared.Sought.{Sought}
+use Rattle.finder.specs.declared.Sought.the-variants.{At, Nowhere}
+use Rattle.finder.specs.declared.Ahead.{Ahead}
+use Rattle.finder.specs.declared.Led.{Led}
+use Rattle.finder.specs.declared.piece.Turn.{Turn}
 use Rattle.finder.specs.Feed.{completed, feed}
 use Rattle.finder.specs.Entry.{Lent, fed-call}
 
--- t is the target at a place of the sheet: number i of the code's where that is the place of number i
-abbrev pub Stands-at : (w : List ℕ) → (at t : ℕ) → Type 0
-Stands-at w at t = (i : ℕ) → at ≡ target-place (length w) i → t ≡ getD (all-targets w) i 0
+-- SEARCHING from a number on: P holds of all that were passed
+pub record Passed (P : ℕ → Type 0) (from at : ℕ) : Type 0 where
+  pub on : from ≤ at
+  pub all : (i : ℕ) → from ≤ i → i < at → P i
 
--- and behind that place comes the place of the next number
-abbrev pub Next-place : (at next : ℕ) → Type 0
-Next-place at n = (m i : ℕ) → at ≡ target-place m i → n ≡ target-place m (i + 1)
+-- and the search reaches the first number of which Q holds, or the end
+pub record Reaches (P Q : ℕ → Type 0) (from end at : ℕ) : Type 0 where
+  pub passed : Passed P from at
+  pub within : at ≤ end
+  pub found : at < end → Q at
+
+-- byte c stands at place i, or another
+abbrev pub Here : (piece : List ℕ) → (c i : ℕ) → Type 0
+Here cs c i = getD cs i 0 ≡ c
+
+abbrev pub Other : (piece : List ℕ) → (c i : ℕ) → Type 0
+Other cs c i = getD cs i 0 ≢ c
+
+-- the first place from a place on where byte c stands, or the end; and the first where another stands
+abbrev pub Skipped : (piece : List ℕ) → (from c at : ℕ) → Type 0
+Skipped cs from c at = Reaches (Other cs c) (Here cs c) from (length cs) at
+
+abbrev pub Stayed : (piece : List ℕ) → (from c at : ℕ) → Type 0
+Stayed cs from c at = Reaches (Here cs c) (Other cs c) from (length cs) at
+
+-- THE SHEET of a code of m bytes
+pub record Sized (bs : List ℕ) (m : ℕ) : Type 0 where
+  pub on : begins bs ≡ true
+  pub m-is : m ≡ length (named bs)
+
+-- target number l of the code's
+abbrev pub target-of : (w : List ℕ) → (l : ℕ) → ℕ
+target-of w l = getD (all-targets w) l 0
+
+-- of the targets from one number up to another, the first whose label is byte c
+abbrev pub Sought-by : (w : List ℕ) → (from to c : ℕ) → Sought → Type 0
+Sought-by w from to c (At l) = Passed (λ k. label w (target-of w k) ≢ c) from l × (l < to) × (label w (target-of w l) ≡ c)
+Sought-by w from to c Nowhere = Passed (λ k. label w (target-of w k) ≢ c) from to
+
+-- the watch after n bytes that led to a state at a cost and completed so many places
+abbrev pub further : Watch → (state n hits cost : ℕ) → Watch
+further x q n h c = record { state = q; taken = x .taken + n; hits = x .hits + h; compares = x .compares + c }
+
+-- feeding goes on behind the bytes from place i to place j as if begun there, after what they told: from watch x with so much room, from watch y with what
+-- is left of it
+pub record Goes-on (w piece : List ℕ) (i j room : ℕ) (told : List ℕ) (x y : Watch) : Type 0 where
+  pub is : feed w (drop i piece) room x ≡ fed-more (j - i) told (feed w (drop j piece) (room - length told) y)
+
+-- WHERE BYTES LEAD, the one invariant of the loops: those from place i to place j lead from state p to state q at a cost, and only the last of them may
+-- complete a place. So feeding goes on behind them, whatever else the watch holds
+pub record Leads (w piece : List ℕ) (p i q cost j : ℕ) : Type 0 where
+  pub on : i ≤ j
+  pub within : j ≤ length piece
+  pub state : q ≤ length w
+  pub reached : q ≤ p + (j - i)
+  pub cheap : cost ≤ longest-code * (j - i)
+  pub feeds :
+      (x : Watch) → x .state ≡ p → (k : ℕ) → 1 ≤ k →
+      let told = completed (length w) q (x .taken + (j - i)) in Goes-on w piece i j k told x (further x q (j - i) (length told) cost)
+
+-- so some bytes have led from state p and place i
+pub record Led-from (w piece : List ℕ) (p i : ℕ) (s : Led) : Type 0 where
+  pub later : i < s .at
+  pub leads : Leads w piece p i (s .state) (s .cost) (s .at)
+
+-- a byte can be read at place i in state p
+pub record Readable (bs : List ℕ) (m p : ℕ) (piece : List ℕ) (i : ℕ) : Type 0 where
+  pub sheet : Sized bs m
+  pub state : p ≤ m
+  pub inside : i < length piece
+  pub text : length piece ≤ longest-text
+
+-- FORWARD ARROWS were followed by n bytes, all that the piece or the code has where no other byte was looked at, and so many backward labels failed. With the
+-- byte behind, if it was looked at, they lead to the state of its arrow
+abbrev pub Went-by : (w piece : List ℕ) → (p i n failed : ℕ) → Arrow → Type 0
+Went-by w piece p i n f (Back t) = Leads w piece p i t (f + n + 1) (i + n + 1)
+Went-by w piece p i n f Forward = (n ≡ min (length piece - i) (length w - p)) × Leads w piece p i (p + n) (f + n) (i + n)
+Went-by w piece p i n f Nothing = Leads w piece p i 0 (f + n + 1) (i + n + 1)
+
+pub record Went (w piece : List ℕ) (p i : ℕ) (a : Ahead) : Type 0 where
+  pub bytes : i + a .bytes ≤ length piece
+  pub few : a .failed ≤ longest-code
+  pub by : Went-by w piece p i (a .bytes) (a .failed) (a .arrow)
+
+-- STATE 1: bytes that lead to 1 again, each at a cost of 1, up to one that none of its backward labels is equal to, or the end
+abbrev pub Stayed-one : (w piece : List ℕ) → (from at : ℕ) → Type 0
+Stayed-one w cs from at =
+    Reaches (λ i. stepped w 1 (getD cs i 0) ≡ step 1 1 (Back 1)) (λ i. stepped w 1 (getD cs i 0) ≡ try-forward (arrows w 1) w 1 (getD cs i 0)) from
+    (length cs) at
+
+-- bytes have led to a state at one comparison for each, and those that failed besides
+abbrev pub led-to : (state from at failed : ℕ) → Led
+led-to q i j f = record { state = q; cost = j - i + f; at = j }
+
+-- THE LIST OF PLACES: it was ps with k places in front, and now some more are written behind them, n in all
+pub record Written (ps : List ℕ) (k : ℕ) (more : List ℕ) (n : ℕ) (qs : List ℕ) : Type 0 where
+  pub count : n ≡ k + length more
+  pub room : n ≤ length qs
+  pub size : length qs ≡ length ps
+  pub front : take n qs ≡ take k ps ++ more
+  pub tail : drop n qs ≡ drop n ps
+
+-- what the last byte has completed can be written, and is; so many bytes of text were before the piece
+pub record Placing (m before : ℕ) (s : Led) (ps : List ℕ) (k : ℕ) : Type 0 where
+  pub room : k < length ps
+  pub reached : s .state ≤ before + s .at
+  pub text : before + s .at ≤ longest-text
+
+pub record Placed (m before : ℕ) (s : Led) (k : ℕ) (ps : List ℕ) (t : Turn) (qs : List ℕ) : Type 0 where
+  pub state : t .state ≡ s .state
+  pub cost : t .cost ≡ s .cost
+  pub at : t .at ≡ s .at
+  pub written : Written ps k (completed m (s .state) (before + s .at)) (t .written) qs
+
+-- n numbers in a row
+unfoldable pub in-a-row : (first n : ℕ) → List ℕ
+in-a-row a zero = []
+in-a-row a (suc n) = in-a-row a n ++ ((a + n) ∷ [])
+
+-- a place for each of the next bytes, behind the last place, can be written, and is for as many of them as are byte c
+pub record Repeating (piece : List ℕ) (from count : ℕ) (ps : List ℕ) (k last : ℕ) : Type 0 where
+  pub bytes : from + count ≤ length piece
+  pub room : k + count ≤ length ps
+  pub places : k + count ≤ longest-text
+  pub text : length piece ≤ longest-text
+  pub below : last + count ≤ longest-text
+
+pub record Repeated (piece : List ℕ) (from count c k last : ℕ) (ps : List ℕ) (n : ℕ) (qs : List ℕ) : Type 0 where
+  pub stopped : Reaches (Here piece c) (Other piece c) from (from + count) (from + n)
+  pub written : Written ps k (in-a-row (last + 1) n) (k + n) qs
+
+-- THE LOOP OVER A PIECE, which has so many bytes of text before it. A turn can start in state p at place i, with k places written
+pub record Turning (bs : List ℕ) (m before p : ℕ) (piece : List ℕ) (i : ℕ) (ps : List ℕ) (k : ℕ) : Type 0 where
+  pub sheet : Sized bs m
+  pub state : p ≤ m
+  pub reached : p ≤ before + i
+  pub inside : i < length piece
+  pub text : before + length piece ≤ longest-text
+  pub room : k < length ps
+  pub fewer : k ≤ i
+
+-- it has taken bytes and written the places that they completed, and feeding goes on behind them
+pub record Turned (w piece : List ℕ) (before p i k : ℕ) (ps : List ℕ) (t : Turn) (qs : List ℕ) : Type 0 where
+  pub told : List ℕ
+  pub written : Written ps k told (t .written) qs
+  pub few : length told ≤ t .at - i
+  pub later : i < t .at
+  pub within : t .at ≤ length piece
+  pub state : t .state ≤ length w
+  pub reached : t .state ≤ before + t .at
+  pub cheap : t .cost ≤ longest-code * (t .at - i)
+  pub feeds :
+      (x : Watch) → x .state ≡ p → x .taken ≡ before + i →
+      Goes-on w piece i (t .at) (length ps - k) told x (further x (t .state) (t .at - i) (length told) (t .cost))
 
 -- a watch with which n bytes more can be taken, for a code of m bytes: no byte costs more than the longest code has bytes
 pub record Ready (m : ℕ) (x : Watch) (n : ℕ) : Type 0 where
@@ -32,56 +183,6 @@ pub record Ready (m : ℕ) (x : Watch) (n : ℕ) : Type 0 where
   pub hits : x .hits ≤ x .taken
   pub text : x .taken + n ≤ longest-text
   pub cheap : x .compares + longest-code * n < 2 ^ 63
-
--- what a turn has found, a list of none or one
-abbrev pub found-list : Found → List ℕ
-found-list (At place) = place ∷ []
-found-list Nothing = []
-
--- the watch after n bytes that led to a state at a cost and completed so many places
-abbrev pub led : Watch → (state n hits cost : ℕ) → Watch
-led x q n h c = record { state = q; taken = x .taken + n; hits = x .hits + h; compares = x .compares + c }
-
--- the first place from a place on where a byte stands, or the end
-pub record Skipped (piece : List ℕ) (from byte at : ℕ) : Type 0 where
-  pub on : from ≤ at
-  pub within : at ≤ length piece
-  pub others : (i : ℕ) → from ≤ i → i < at → getD piece i 0 ≢ byte
-  pub found : at < length piece → getD piece at 0 ≡ byte
-
--- THE LOOP OVER A PIECE, which has so many bytes of text before it, with the sheet of a code of m bytes. A turn can start at place i in state p
-pub record Turning (bs : List ℕ) (m before p : ℕ) (piece : List ℕ) (i : ℕ) : Type 0 where
-  pub on : begins bs ≡ true
-  pub m-is : m ≡ length (named bs)
-  pub inside : i < length piece
-  pub state : p ≤ m
-  pub reached : p ≤ before + i
-  pub text : before + length piece ≤ longest-text
-
--- the bytes from place i to place j lead from state p to state q at a cost, and complete these places: whatever else the watch holds, feeding goes on so
--- behind them
-pub record Leads (w piece : List ℕ) (before p i q cost j : ℕ) (told : List ℕ) : Type 0 where
-  pub on : i ≤ j
-  pub within : j ≤ length piece
-  pub state : q ≤ length w
-  pub reached : q ≤ before + j
-  pub cheap : cost ≤ longest-code * (j - i)
-  pub feeds :
-      (x : Watch) → x .state ≡ p → x .taken ≡ before + i → (k : ℕ) →
-      feed w (drop i piece) (suc k) x
-      ≡ fed-more (j - i) told (feed w (drop j piece) (suc k - length told) (led x q (j - i) (length told) cost))
-
--- a turn that has come to a place, a state and a cost: what the state has completed there is found
-pub record Come-to (m before q c j : ℕ) (t : Turn) : Type 0 where
-  pub state : t .state ≡ q
-  pub cost : t .cost ≡ c
-  pub at : t .at ≡ j
-  pub found : found-list (t .found) ≡ completed m q (before + j)
-
--- it has taken bytes, and they have led so far
-pub record Turned (w piece : List ℕ) (before p i : ℕ) (t : Turn) : Type 0 where
-  pub later : i < t .at
-  pub leads : Leads w piece before p i (t .state) (t .cost) (t .at) (found-list (t .found))
 
 -- a piece was taken: the call is one that is not refused
 pub record Took (w : List ℕ) (x : Watch) (before : Lent) (answer : Feeding) (after : Lent) : Type 0 where

@@ -1,21 +1,22 @@
-// Feeding: the watch (the scan's state), and one pass over the pieces of a text, a byte at a time.
+// Watches (the scan's states), and what the bytes of a text do: where they lead by the arrows of a sheet, and what they cost. piece.rt has the entry point.
 // The order of comparisons is one that Hancart's theorem 4.6 covers: the backward labels first, by falling target, then the forward label.
 ghost use mathlib.Core.Path.{_≡_};
 ghost use mathlib.Core.Bool.{true};
-ghost use Prim.Native.Nat.{_+_, _≤_, _<_};
+ghost use Prim.Native.Nat.{_+_, _^_, _≤_, _<_, min};
 ghost use lib.ListN.{length};
-ghost use Rattle.runs.specs.Reading.{longest-text};
 ghost use Rattle.automaton.specs.Arrows.{label, arrows-below, back-arrows, try-forward, stepped};
 ghost use Rattle.codes.specs.Codes.{longest-code};
-ghost use Rattle.sheets.specs.Sheet.{target-place, named, begins};
-ghost use Rattle.finder.specs.Feed.{opened, fit};
-ghost use Rattle.finder.specs.Entry.{lent, feed-refusal, Feed-says};
-ghost use Rattle.finder.specs.Inside.{Stands-at, Next-place, Ready, Skipped, Turning, Come-to, Turned, Took};
+ghost use Rattle.sheets.specs.Sheet.{named, begins};
+ghost use Rattle.finder.specs.Feed.{opened};
+ghost use Rattle.finder.specs.Inside.{Sized, target-of, Sought-by, Went, Readable, Led-from, Skipped, Stayed, Stayed-one, led-to};
 use automaton::Arrow;
 use automaton::Step;
 use runs::Ending;
-use sheets::is_sheet;
 use sheets::wide;
+
+mod piece;
+
+pub use piece::feed;
 
 // A watch (the state of a scan), document 01's p, n, h and c: the automaton's state, the bytes taken since the opening, the places reported,
 // and the labels compared with bytes of the text.
@@ -61,7 +62,7 @@ pub struct Feeding {
     pub ending: Ending,
 }
 
-// READING A SHEET: only the next five functions know where its bytes are, and what they tell is told of the code.
+// READING A SHEET: only the next four functions know where its bytes are, and what they tell is told of the code.
 
 // The code's length.
 fn code_length(sheet: &[u8]) -> usize
@@ -79,33 +80,48 @@ fn label(sheet: &[u8], t: usize) -> u8
     sheet[t]
 }
 
-// The place in the sheet after the targets of the states below s, s being 1 or more, for a code of m bytes.
-fn after_targets(sheet: &[u8], m: usize, s: usize) -> usize
-    requires { ⌜ (begins (now sheet) ≡ true) × (m ≡ length (named (now sheet))) × (1 ≤ s) × (s ≤ m + 1) ⌝ }
-    ensures { λ r. ⌜ r ≡ target-place m (arrows-below (named (now (sheet .entry))) s) ⌝ }
+// How many backward targets the states below s have, s being 1 or more, for a code of m bytes: the number of the first one of s.
+fn targets_below(sheet: &[u8], m: usize, s: usize) -> usize
+    requires { ⌜ Sized (now sheet) m × (1 ≤ s) × (s ≤ m + 1) ⌝ }
+    ensures { λ r. ⌜ (r ≡ arrows-below (named (now (sheet .entry))) s) × (r ≤ longest-code) ⌝ }
 {
-    2 * m + 2 + wide(sheet[m + s])
+    wide(sheet[m + s])
 }
 
-// The target at a place of the sheet.
-fn target(sheet: &[u8], at: usize) -> usize
-    requires { ⌜ (begins (now sheet) ≡ true) × (at < target-place (length (named (now sheet))) (back-arrows (named (now sheet)))) ⌝ }
-    ensures { λ r. ⌜ Stands-at (named (now (sheet .entry))) at r ⌝ }
+// Target number l of all the code's, from 0.
+fn target(sheet: &[u8], m: usize, l: usize) -> usize
+    requires { ⌜ Sized (now sheet) m × (l < back-arrows (named (now sheet))) ⌝ }
+    ensures { λ r. ⌜ r ≡ target-of (named (now (sheet .entry))) l ⌝ }
 {
-    wide(sheet[at])
+    wide(sheet[2 * m + 2 + l])
 }
 
-// The place of the next target.
-fn next_place(at: usize) -> usize
-    requires { ⌜ at < target-place longest-code longest-code ⌝ }
-    ensures { λ r. ⌜ (at < r) × Next-place at r ⌝ }
+// ONE BYTE: the labels of a state are compared with it.
+
+// What comparing backward labels came to: that of a target with this number is equal, or none is.
+enum Sought {
+    At(usize),
+    Nowhere,
+}
+
+// The first of the targets from number `from` up to `to` whose label is the byte. Each turn compares one label.
+fn backward(sheet: &[u8], m: usize, from: usize, to: usize, byte: u8) -> Sought
+    requires { ⌜ Sized (now sheet) m × (from ≤ to) × (to ≤ back-arrows (named (now sheet))) ⌝ }
+    ensures { λ r. ⌜ Sought-by (named (now (sheet .entry))) from to byte r ⌝ }
 {
-    at + 1
+    let mut l = from;
+    while l < to {
+        if label(sheet, target(sheet, m, l)) == byte {
+            return Sought::At(l);
+        }
+        l += 1;
+    }
+    Sought::Nowhere
 }
 
 // The forward arrow of p, after `cost` labels were compared.
 fn forward_step(sheet: &[u8], m: usize, p: usize, byte: u8, cost: u32) -> Step
-    requires { ⌜ (begins (now sheet) ≡ true) × (m ≡ length (named (now sheet))) × (p ≤ m) × (cost ≤ longest-code) ⌝ }
+    requires { ⌜ Sized (now sheet) m × (p ≤ m) × (cost ≤ longest-code) ⌝ }
     ensures { λ r. ⌜ r ≡ try-forward cost (named (now (sheet .entry))) p byte ⌝ }
 {
     if p < m {
@@ -129,60 +145,134 @@ fn forward_step(sheet: &[u8], m: usize, p: usize, byte: u8, cost: u32) -> Step
     }
 }
 
-// One byte from a state p of 1 or more: backward labels by falling target, then the forward one. Each turn compares one label.
-fn follow(sheet: &[u8], p: usize, byte: u8) -> Step
-    requires { ⌜ (begins (now sheet) ≡ true) × (1 ≤ p) × (p ≤ length (named (now sheet))) ⌝ }
+// The step from a state p of 1 or more: backward labels by falling target, then the forward one.
+fn follow(sheet: &[u8], m: usize, p: usize, byte: u8) -> Step
+    requires { ⌜ Sized (now sheet) m × (1 ≤ p) × (p ≤ m) ⌝ }
     ensures { λ r. ⌜ r ≡ stepped (named (now (sheet .entry))) p byte ⌝ }
 {
-    let m = code_length(sheet);
-    let end = after_targets(sheet, m, p + 1);
-    let mut at = after_targets(sheet, m, p);
-    let mut cost: u32 = 0;
-    while at < end {
-        let t = target(sheet, at);
-        cost += 1;
-        if label(sheet, t) == byte {
-            let target = t as u32;
-            return Step {
-                state: target,
-                cost: cost,
-                arrow: Arrow::Back(target),
+    let from = targets_below(sheet, m, p);
+    let to = targets_below(sheet, m, p + 1);
+    let sought = backward(sheet, m, from, to, byte);
+    if let Sought::At(l) = sought {
+        let target = target(sheet, m, l) as u32;
+        return Step {
+            state: target,
+            cost: (l - from + 1) as u32,
+            arrow: Arrow::Back(target),
+        };
+    }
+    forward_step(sheet, m, p, byte, (to - from) as u32)
+}
+
+// MANY BYTES: where they lead, and what they cost. No byte is compared twice with one label.
+
+// The smaller of two numbers.
+fn least(a: usize, b: usize) -> usize
+    ensures { λ r. ⌜ r ≡ min a b ⌝ }
+{
+    if a < b { a } else { b }
+}
+
+// Where forward arrows have led: how many bytes followed one, how many backward labels were compared and were not equal, and the arrow of the byte behind
+// (`Forward`: it was not looked at).
+struct Ahead {
+    bytes: usize,
+    failed: usize,
+    arrow: Arrow,
+}
+
+// From a state between 0 and m, as long as forward arrows are followed. The targets of a state end where those of the next begin, so the comparisons need no
+// count of their own: worst cases are about 1.4 times as fast as with one.
+fn go_ahead(sheet: &[u8], m: usize, p: usize, piece: &[u8], i: usize) -> Ahead
+    requires { ⌜ Readable (now sheet) m p (now piece) i × (1 ≤ p) × (p < m) ⌝ }
+    ensures { λ r. ⌜ Went (named (now (sheet .entry))) (now (piece .entry)) p i r ⌝ }
+{
+    let start = targets_below(sheet, m, p);
+    let count = least(piece.len() - i, m - p);
+    let mut l = start;
+    let mut j = 0;
+    while j < count {
+        let byte = piece[i + j];
+        let end = targets_below(sheet, m, p + j + 1);
+        let sought = backward(sheet, m, l, end, byte);
+        if let Sought::At(b) = sought {
+            return Ahead {
+                bytes: j,
+                failed: b - start,
+                arrow: Arrow::Back(target(sheet, m, b) as u32),
             };
         }
-        at = next_place(at);
+        if label(sheet, p + j + 1) != byte {
+            return Ahead {
+                bytes: j,
+                failed: end - start,
+                arrow: Arrow::Nothing,
+            };
+        }
+        l = end;
+        j += 1;
     }
-    forward_step(sheet, m, p, byte, cost)
+    Ahead {
+        bytes: j,
+        failed: l - start,
+        arrow: Arrow::Forward,
+    }
 }
 
-// What the last byte of a turn has completed: a place, or nothing.
-enum Found {
-    At(u32),
-    Nothing,
-}
-
-// Where a turn of the loop over a piece has come to: the state, what its bytes cost, the place in the piece, and what it has found.
-struct Turn {
-    state: u32,
+// Where some bytes of a piece have led: the state, what they cost, and the place behind them. Only the last of them may have completed a place.
+struct Led {
+    state: usize,
     cost: u64,
     at: usize,
-    found: Found,
 }
 
-// The turn that has come to a state at a cost, with so many bytes of text before the piece and those of the piece up to a place, for a code of m bytes.
-// Only the last of them may have completed it, which is decided here alone.
-fn come_to(m: u32, before: u32, state: u32, cost: u64, at: usize) -> Turn
-    requires { ⌜ (state ≤ before + at) × (before + at ≤ longest-text) ⌝ }
-    ensures { λ r. ⌜ Come-to m before state cost at r ⌝ }
+// From a state between 0 and m: forward arrows, and the byte that follows none.
+fn stretch(sheet: &[u8], m: usize, p: usize, piece: &[u8], i: usize) -> Led
+    requires { ⌜ Readable (now sheet) m p (now piece) i × (1 ≤ p) × (p < m) ⌝ }
+    ensures { λ r. ⌜ Led-from (named (now (sheet .entry))) (now (piece .entry)) p i r ⌝ }
 {
-    let mut found = Found::Nothing;
-    if state == m {
-        found = Found::At(before + (at as u32) - m);
+    let r = go_ahead(sheet, m, p, piece, i);
+    let n = r.bytes;
+    let cost = (r.failed + n) as u64;
+    let arrow = r.arrow;
+    match arrow {
+        Arrow::Back(target) => Led {
+            state: target as usize,
+            cost: cost + 1,
+            at: i + n + 1,
+        },
+        Arrow::Forward => Led {
+            state: p + n,
+            cost: cost,
+            at: i + n,
+        },
+        Arrow::Nothing => Led {
+            state: 0,
+            cost: cost + 1,
+            at: i + n + 1,
+        },
     }
-    Turn {
+}
+
+// From a state of 1 or more: one step, and on as long as the state is neither 0 nor m and bytes are left.
+fn walk(sheet: &[u8], m: usize, p: usize, piece: &[u8], from: usize) -> Led
+    requires { ⌜ Readable (now sheet) m p (now piece) from × (1 ≤ p) ⌝ }
+    ensures { λ r. ⌜ Led-from (named (now (sheet .entry))) (now (piece .entry)) p from r ⌝ }
+{
+    let first = follow(sheet, m, p, piece[from]);
+    let mut state = first.state as usize;
+    let mut cost = first.cost as u64;
+    let mut i = from + 1;
+    while i < piece.len() && 0 < state && state < m {
+        let s = stretch(sheet, m, state, piece, i);
+        state = s.state;
+        cost += s.cost;
+        i = s.at;
+    }
+    Led {
         state: state,
         cost: cost,
-        at: at,
-        found: found,
+        at: i,
     }
 }
 
@@ -226,158 +316,81 @@ fn skip(piece: &[u8], from: usize, byte: u8) -> usize
     skip_one(piece, i, byte)
 }
 
-// The step from state 0 on the code's first byte, which `skip` has compared already.
-fn first_step(sheet: &[u8], byte: u8) -> Step
-    requires { ⌜ (begins (now sheet) ≡ true) × (byte ≡ label (named (now sheet)) 1) ⌝ }
-    ensures { λ r. ⌜ r ≡ stepped (named (now (sheet .entry))) 0 byte ⌝ }
+// The first place from a place on where another byte stands, or the end: one comparison for each byte passed, and one for the byte found.
+fn stay(piece: &[u8], from: usize, byte: u8) -> usize
+    requires { ⌜ from ≤ length (now piece) ⌝ }
+    ensures { λ r. ⌜ Stayed (now (piece .entry)) from byte r ⌝ }
 {
-    Step {
-        state: 1,
-        cost: 1,
-        arrow: Arrow::Forward,
-    }
-}
-
-// From state 0: the bytes that are not the code's first, and the one that is, if it comes. No byte is compared twice.
-fn from_start(sheet: &[u8], m: u32, before: u32, piece: &[u8], i: usize) -> Turn
-    requires { ⌜ Turning (now sheet) m before 0 (now piece) i ⌝ }
-    ensures { λ r. ⌜ Turned (named (now (sheet .entry))) (now (piece .entry)) before 0 i r ⌝ }
-{
-    let j = skip(piece, i, label(sheet, 1));
-    let cost = (j - i) as u64;
-    if j == piece.len() {
-        return Turn {
-            state: 0,
-            cost: cost,
-            at: j,
-            found: Found::Nothing,
-        };
-    }
-    let s = first_step(sheet, piece[j]);
-    come_to(m, before, s.state, cost + (s.cost as u64), j + 1)
-}
-
-// From another state: one byte, and on as long as the state is neither 0 nor m and bytes are left. Here only the state and the cost are kept from
-// byte to byte, which makes worst cases about 1.4 times as fast.
-fn walk(sheet: &[u8], m: u32, before: u32, p: u32, piece: &[u8], from: usize) -> Turn
-    requires { ⌜ Turning (now sheet) m before p (now piece) from × (1 ≤ p) ⌝ }
-    ensures { λ r. ⌜ Turned (named (now (sheet .entry))) (now (piece .entry)) before p from r ⌝ }
-{
-    let first = follow(sheet, p as usize, piece[from]);
-    let mut state = first.state;
-    let mut cost = first.cost as u64;
-    let mut i = from + 1;
-    while i < piece.len() && 0 < state && state < m {
-        let s = follow(sheet, state as usize, piece[i]);
-        state = s.state;
-        cost += s.cost as u64;
+    let mut i = from;
+    while i < piece.len() {
+        if piece[i] != byte {
+            return i;
+        }
         i += 1;
     }
-    come_to(m, before, state, cost, i)
+    i
 }
 
-// One turn of the loop over a piece.
-fn advance(sheet: &[u8], m: u32, before: u32, p: u32, piece: &[u8], i: usize) -> Turn
-    requires { ⌜ Turning (now sheet) m before p (now piece) i ⌝ }
-    ensures { λ r. ⌜ Turned (named (now (sheet .entry))) (now (piece .entry)) before p i r ⌝ }
+// In state 1, below m: the first place from a place on whose byte follows no backward arrow, or the end. Such an arrow leads to 1 again, on the code's first
+// byte; where that is the forward label too, there is none, and no byte is compared.
+fn stay_one(sheet: &[u8], m: usize, piece: &[u8], from: usize) -> usize
+    requires { ⌜ Sized (now sheet) m × (2 ≤ m) × (from ≤ length (now piece)) ⌝ }
+    ensures { λ r. ⌜ Stayed-one (named (now (sheet .entry))) (now (piece .entry)) from r ⌝ }
 {
-    if p == 0 {
-        return from_start(sheet, m, before, piece, i);
+    if targets_below(sheet, m, 2) == 0 {
+        return from;
     }
-    walk(sheet, m, before, p, piece, i)
+    stay(piece, from, label(sheet, 1))
 }
 
-// The bytes of a piece, until it ends or the list is full. From turn to turn only the state, the cost and the two counts are kept, which makes texts full
-// of places about 1.6 times as fast.
-fn take_bytes(sheet: &[u8], watch: Watch, piece: &[u8], places: &mut [u32]) -> Feeding
-    requires { ⌜ (begins (now sheet) ≡ true) × Ready (length (named (now sheet))) watch (length (now piece)) ⌝ }
-    ensures { λ r. ⌜
-        Took (named (now (sheet .entry))) watch (lent (now (piece .entry)) (now (places .entry))) r (lent (now (piece .exit)) (now (places .exit))) ⌝ }
+// The bytes from a place to another have led to a state: one comparison for each, and those that failed besides.
+fn led_to(state: usize, from: usize, at: usize, failed: usize) -> Led
+    requires { ⌜ (from ≤ at) × (at + failed < 2 ^ 63) ⌝ }
+    ensures { λ r. ⌜ r ≡ led-to state from at failed ⌝ }
 {
-    let m = code_length(sheet) as u32;
-    let mut state = watch.state;
-    let mut cost: u64 = 0;
-    let mut i = 0;
-    let mut k = 0;
-    while i < piece.len() && k < places.len() {
-        let t = advance(sheet, m, watch.taken, state, piece, i);
-        state = t.state;
-        cost += t.cost;
-        i = t.at;
-        let found = t.found;
-        if let Found::At(place) = found {
-            places[k] = place;
-            k += 1;
+    Led {
+        state: state,
+        cost: (at - from + failed) as u64,
+        at: at,
+    }
+}
+
+// From state 0, and on as long as no byte leads past state 1: up to 1.5 times as fast on plan text as with a turn for each first byte of the code. A byte costs
+// one comparison, and where it leaves state 1 the backward labels of 1 have failed too.
+fn from_start(sheet: &[u8], m: usize, piece: &[u8], from: usize) -> Led
+    requires { ⌜ Readable (now sheet) m 0 (now piece) from ⌝ }
+    ensures { λ r. ⌜ Led-from (named (now (sheet .entry))) (now (piece .entry)) 0 from r ⌝ }
+{
+    let mut failed = 0;
+    let mut i = from;
+    while i < piece.len() {
+        let j = skip(piece, i, label(sheet, 1));
+        if j == piece.len() {
+            return led_to(0, from, j, failed);
+        }
+        if m == 1 {
+            return led_to(1, from, j + 1, failed);
+        }
+        let k = stay_one(sheet, m, piece, j + 1);
+        if k == piece.len() {
+            return led_to(1, from, k, failed);
+        }
+        failed += targets_below(sheet, m, 2);
+        i = k + 1;
+        if piece[k] == label(sheet, 2) {
+            return led_to(2, from, i, failed);
         }
     }
-    let mut ending = Ending::PieceDone;
-    if i < piece.len() {
-        ending = Ending::ListFull;
-    }
-    let taken = i as u32;
-    let written = k as u32;
-    Feeding {
-        watch: Watch {
-            state: state,
-            taken: watch.taken + taken,
-            hits: watch.hits + written,
-            compares: watch.compares + cost,
-        },
-        taken: taken,
-        written: written,
-        ending: ending,
-    }
+    led_to(0, from, i, failed)
 }
 
-// Whether a watch is fit for a code of m bytes.
-fn is_fit(m: u32, x: Watch) -> bool
-    ensures { λ r. ⌜ r ≡ fit m x ⌝ }
+// From any state, as far as the first place that is completed.
+fn advance(sheet: &[u8], m: usize, p: usize, piece: &[u8], i: usize) -> Led
+    requires { ⌜ Readable (now sheet) m p (now piece) i ⌝ }
+    ensures { λ r. ⌜ Led-from (named (now (sheet .entry))) (now (piece .entry)) p i r ⌝ }
 {
-    if m < x.state {
-        return false;
+    if p == 0 {
+        return from_start(sheet, m, piece, i);
     }
-    if x.taken < x.state {
-        return false;
-    }
-    if x.taken < x.hits {
-        return false;
-    }
-    x.compares <= 2 * (x.taken as u64)
-}
-
-// The refusal of a feeding, 0 for none: from the sheet, the watch, and the lengths of the piece and of the list.
-fn feed_refusal(sheet: &[u8], x: Watch, piece: usize, room: usize) -> u32
-    ensures { λ r. ⌜ r ≡ feed-refusal (now (sheet .entry)) x piece room ⌝ }
-{
-    if !is_sheet(sheet) {
-        return 4;
-    }
-    if !is_fit(code_length(sheet) as u32, x) {
-        return 5;
-    }
-    if room == 0 {
-        return 6;
-    }
-    if ((Watch::LONGEST_TEXT - x.taken) as usize) < piece {
-        return 7;
-    }
-    0
-}
-
-// Feeds a piece of text: with a sheet, whatever stands behind it, and the watch answered before. The places (the offsets of occurrences, counted
-// from the opening) are written to the list's start, and the rest of the list stays. A refusal answers the watch as it was and changes nothing.
-pub fn feed(sheet: &[u8], watch: Watch, piece: &[u8], places: &mut [u32]) -> Feeding
-    ensures { λ r. ⌜
-        Feed-says (now (sheet .entry)) watch (lent (now (piece .entry)) (now (places .entry))) r (lent (now (piece .exit)) (now (places .exit))) ⌝ }
-{
-    let refusal = feed_refusal(sheet, watch, piece.len(), places.len());
-    if refusal != 0 {
-        return Feeding {
-            watch: watch,
-            taken: 0,
-            written: 0,
-            ending: Ending::Refused(refusal),
-        };
-    }
-    take_bytes(sheet, watch, piece, places)
+    walk(sheet, m, p, piece, i)
 }

@@ -1,6 +1,6 @@
 -- Lists: equality as a test, membership as a test, facts of every element, one element more at the end, and the last n elements. Assumes nothing.
 use mathlib.Core.Path.{_≡_, refl, sym, ap, _∙_}
-use mathlib.Core.Bool.{true, false, _||_}
+use mathlib.Core.Bool.{true, false, _||_, and-true}
 use mathlib.Core.Logic.{_≢_}
 use mathlib.Core.List.{List, [], _∷_, _++_}
 use Prim.Native.Nat.{ℕ, zero, suc, _+_, _-_, _≤_, _<_}
@@ -30,6 +30,16 @@ same-eq (x ∷ xs) (y ∷ ys) e =
     let head : x ≡ y = eqb-true x y (and-left (eqb x y) (same xs ys) e) in
     let tail : xs ≡ ys = same-eq xs ys (and-right (eqb x y) (same xs ys) e) in
     cc
+
+pub not-same : (xs ys : List ℕ) → xs ≢ ys → same xs ys ≡ false
+not-same xs ys n = by-test (same xs ys) (λ e. absurd (n (same-eq xs ys e))) (λ e. e)
+
+-- a list of one with another
+pub same-one : (xs : List ℕ) (v : ℕ) → length xs ≡ 1 → same xs (v ∷ []) ≡ eqb (getD xs 0 0) v
+unfolding same
+same-one [] v e = absurd (omega (arith, e))
+same-one (x ∷ []) v e = and-true (eqb x v)
+same-one (x ∷ y ∷ ys) v e = absurd (omega (arith, e))
 
 -- MEMBERSHIP
 pub member-nil : (v : ℕ) → member v [] ≡ false

@@ -1,156 +1,121 @@
--- `follow` meets its contract. The loop keeps that the labels compared so far decide nothing yet: what is left of them is what the step is. Assumes nothing.
-use mathlib.Core.Path.{_≡_, _∙_, sym}
-use Prim.Native.Nat.{_+_, _-_, _≤_, _<_}
+-- `follow` meets its contract. By whether a backward label is the byte. Assumes nothing.
+use mathlib.Core.Path.{_≡_, sym, _∙_}
+use Prim.Native.Nat.{_≤_, _<_}
 use native.Mathlib.Numerals.{add-one}
 use native.Mathlib.Omega.{arith}
-use lib.ListN.{length, getD}
-use Rattle.automaton.specs.Arrows.{arrows, arrows-below, all-targets}
-use Rattle.automaton.proofs.Counts.{below-suc}
-use Rattle.automaton.proofs.FewArrows.{few-below}
-use Rattle.codes.specs.Codes.{longest-code}
-use Rattle.sheets.specs.Sheet.{target-place, named}
+use borrow.Author.Needs.{needs}
+use lib.ListN.{length}
+use Rattle.automaton.specs.Arrows.{back-arrows}
+use Rattle.sheets.specs.Sheet.{named}
 use Rattle.sheets.proofs.Sheets.{begins-bounds}
-use Rattle.finder.proofs.Comparing.{Comparing, comparing-start, comparing-end, next-listed, next-inside, comparing-found, comparing-next}
+use Rattle.finder.specs.declared.Sought.the-variants.{At}
+use Rattle.finder.specs.Inside.{Sought-by}
+use Rattle.finder.proofs.Comparing.{target-inside, state-rise, compared-none, compared-at}
 use Rattle.finder.proofs.follow.Statement.{statement}
 use Rattle.finder.proofs.follow.Tie as tie
 
-abbrev Inv-loop : tie.InvT-loop
-Inv-loop sheet p byte m end at₀ cost₀ at cost =
-    let w = named sheet in
-    Comparing w p byte cost
-    × (m ≡ length w)
-    × (end ≡ target-place m (arrows-below w p + arrows w p))
-    × (at ≡ target-place m (arrows-below w p + cost))
+abbrev entry : tie.After-targets-below2 → tie.Start
+entry c = c .before .before .before
 
-abbrev μ-loop : tie.MeasureT-loop
-μ-loop sheet p byte m end at₀ cost₀ at cost = end - at
+low : (c : tie.After-targets-below2) → entry c .args .p ≤ length (named (entry c .args .sheet .now))
+low c = let q = entry c .pre in omega (arith, q .2, q .0 .m-is)
 
--- what the loop keeps of the cost
-few : (c : tie.At-loop Inv-loop μ-loop) → c .loop .cost ≤ longest-code
-few c = let s = c .loop .inv .0 in omega (arith, s .few, s .within)
+rise : (c : tie.After-targets-below2) →
+    (c .before .targets-below .result ≤ c .targets-below2 .result) × (c .targets-below2 .result ≤ back-arrows (named (entry c .args .sheet .now)))
+rise c = state-rise _ _ (low c) _ _ (c .before .targets-below .ensures .0) (c .targets-below2 .ensures .0)
 
--- IN A TURN a label is left: its target stands there, and is one of the code
-going : (c : tie.In-loop Inv-loop μ-loop) → let a = c .before .before .before .before .before .before .args in
-    c .before .loop .cost < arrows (named (a .sheet .now)) (a .p)
-going c = let v = c .before .loop .inv in omega (arith, v .2, v .3, c .loop-test .taken)
+-- where a label is the byte
+abbrev calls : tie.After-sought → tie.After-targets-below2
+calls c = c .before .before .before
 
-stands : (c : tie.After-target Inv-loop μ-loop) → let a = c .before .before .before .before .before .before .before .args in
-    let w = named (a .sheet .now) in c .target .result ≡ getD (all-targets w) (arrows-below w (a .p) + c .before .before .loop .cost) 0
-stands c = let v = c .before .before .loop .inv in c .target .ensures _ (omega (arith, v .1, v .3))
+sought-at : (c : tie.After-sought) → let k = calls c in
+    let a = entry k .args in
+    Sought-by (named (a .sheet .now)) (k .before .targets-below .result) (k .targets-below2 .result) (a .byte) (At (c .sought .given .0 .0))
+sought-at c = rw (c .sought .given .1) at (c .before .before .backward .ensures)
 
-inside : (c : tie.After-target Inv-loop μ-loop) → let a = c .before .before .before .before .before .before .before .args in
-    (1 ≤ c .target .result) × (c .target .result ≤ length (named (a .sheet .now)))
-inside c = next-inside (c .before .before .loop .inv .0) (going (c .before)) (c .target .result) (stands c)
+listed : (c : tie.After-sought) → c .sought .given .0 .0 < back-arrows (named (entry (calls c) .args .sheet .now))
+listed c = omega (arith, sought-at c .1, rise (calls c) .1)
 
-code-length-requires : tie.Need-code-length-requires Inv-loop μ-loop
-code-length-requires c κs = c .before .pre .0
+targets-below-requires : tie.Need-targets-below-requires
+targets-below-requires c κs = search needs
 
-add-after-targets : tie.Need-add-after-targets Inv-loop μ-loop
-add-after-targets c = let q = c .before .before .pre in omega (arith, q .2, begins-bounds _ (q .0))
+add-targets-below : tie.Need-add-targets-below
+add-targets-below c = let q = c .before .before .pre in omega (arith, q .2, q .0 .m-is, begins-bounds _ (q .0 .on))
 
-after-targets-requires : tie.Need-after-targets-requires Inv-loop μ-loop
-after-targets-requires c κs =
-    let q = c .before .before .pre in
-    let m = c .code-length .ensures .0 in
-    (q .0, m, omega arith, omega (arith, q .2, m))
+targets-below-requires-2 : tie.Need-targets-below-requires-2
+targets-below-requires-2 c κs = search needs
 
-after-targets-requires-2 : tie.Need-after-targets-requires-2 Inv-loop μ-loop
-after-targets-requires-2 c κs =
-    let q = c .before .before .before .pre in
-    let m = c .before .code-length .ensures .0 in
-    (q .0, m, q .1, omega (arith, q .2, m))
+backward-requires : tie.Need-backward-requires
+backward-requires c κs = (entry c .pre .0, rise c .0, rise c .1)
 
-loop-holds : tie.Need-loop-holds Inv-loop μ-loop
-loop-holds c =
-    let q = c .before .before .before .before .pre in
-    let a = c .before .before .before .before .args in
-    let end = rw add-one at (c .before .after-targets .ensures) in (
-      comparing-start _ _ (q .2) (begins-bounds _ (q .0) .1),
-      c .before .before .code-length .ensures .0,
-      omega (arith, end, below-suc (named (a .sheet .now)) (a .p)),
-      omega (arith, c .after-targets2 .ensures),
-    )
+enum-known-sought : tie.Need-enum-known-sought
+enum-known-sought c = search needs
 
-target-requires : tie.Need-target-requires Inv-loop μ-loop
+target-requires : tie.Need-target-requires
 target-requires c κs =
-    let v = c .before .loop .inv in
-    (c .before .before .before .before .before .before .pre .0, omega (arith, v .1, v .3, next-listed (v .0) (going c)))
+    let k = calls (c .before) in
+    (entry k .pre .0, listed (c .before))
 
-add-cost : tie.Need-add-cost Inv-loop μ-loop
-add-cost c = omega (arith, few (c .before .before))
-
-label-requires : tie.Need-label-requires Inv-loop μ-loop
-label-requires c κs =
-    let n = inside c in
-    (c .before .before .before .before .before .before .before .pre .0, n .0, n .1)
-
-cast-target : tie.Need-cast-target Inv-loop μ-loop
+cast-target : tie.Need-cast-target
 cast-target c =
-    let s = c .before .before in
-    omega (arith, inside s .1, begins-bounds _ (s .before .before .before .before .before .before .before .pre .0) .1)
+    let q = entry (calls (c .before .before)) .pre in
+    omega (arith, c .target .ensures, target-inside _ _ (listed (c .before .before)) .1, begins-bounds _ (q .0 .on))
 
-returns : tie.Need-returns Inv-loop μ-loop
+sub-t11 : tie.Need-sub-t11
+sub-t11 c = sought-at (c .before .before) .0 .on
+
+add-t12 : tie.Need-add-t12
+add-t12 c = let k = calls (c .before .before) in omega (arith, sought-at (c .before .before) .1, k .targets-below2 .ensures .1)
+
+cast-t13 : tie.Need-cast-t13
+cast-t13 c = let k = calls (c .before .before) in omega (arith, sought-at (c .before .before) .1, k .targets-below2 .ensures .1)
+
+returns : tie.Need-returns
 returns c =
     let s = c .before .before in
-    comparing-found (s .before .before .loop .inv .0) (going (s .before)) (s .target .result) (stands s) (sym (c .before .label .ensures) ∙ c .if1 .taken)
+    let k = calls s in
+    rw add-one
+    (sym
+    (compared-at _ _ (low k) _ _ (k .before .targets-below .ensures .0) (k .targets-below2 .ensures .0) _ _ (c .target .result) (sought-at s)
+    (c .target .ensures)))
 
-next-place-requires : tie.Need-next-place-requires Inv-loop μ-loop
-next-place-requires c κs =
-    let v = c .before .before .before .before .loop .inv in
-    let a = c .before .before .before .before .before .before .before .before .before in
-    let w = named (a .args .sheet .now) in
-    omega (
-      arith,
-      v .1,
-      v .3,
-      going (c .before .before .before),
-      few-below w (a .args .p) (v .0 .ok),
-      below-suc w (a .args .p),
-      begins-bounds _ (a .pre .0),
-    )
+enum-told : tie.Need-enum-told
+enum-told c = search needs
 
-loop-less : tie.Need-loop-less Inv-loop μ-loop
-loop-less c = omega (arith, c .next-place .ensures .0, c .before .before .before .before .loop-test .taken)
+sub-forward-step : tie.Need-sub-forward-step
+sub-forward-step c = rise (c .before .before .before) .0
 
-loop-again : tie.Need-loop-again Inv-loop μ-loop
-loop-again c =
-    let s = c .before .before .before in
-    let v = s .before .before .loop .inv in (
-      comparing-next (v .0) (going (s .before)) (s .target .result) (stands s) (λ e. c .before .if1 .left (c .before .before .label .ensures ∙ e)),
-      v .1,
-      v .2,
-      omega (arith, c .next-place .ensures .1 _ _ (v .3)),
-    )
+cast-forward-step : tie.Need-cast-forward-step
+cast-forward-step c = search needs
 
-forward-step-requires : tie.Need-forward-step-requires Inv-loop μ-loop
-forward-step-requires c κs =
-    let q = c .before .before .before .before .before .before .pre in
-    let m = c .before .before .before .before .code-length .ensures .0 in
-    (q .0, m, omega (arith, q .2, m), few (c .before))
+forward-step-requires : tie.Need-forward-step-requires
+forward-step-requires c κs = search needs
 
-returns-2 : tie.Need-returns-2 Inv-loop μ-loop
+returns-2 : tie.Need-returns-2
 returns-2 c =
-    let v = c .before .before .loop .inv in
-    c .forward-step .ensures ∙ sym (comparing-end (v .0) (omega (arith, v .2, v .3, c .before .loop-test .left)))
+    let k = c .before .before .before .before in
+    c .forward-step .ensures
+    ∙ sym
+    (compared-none _ _ (low k) _ _ (k .before .targets-below .ensures .0) (k .targets-below2 .ensures .0) _
+    (rw (c .before .enum-told .given .1) at (c .before .before .before .backward .ensures)))
 
 pub follow-spec : {M : Type 1} → statement M
 follow-spec =
     tie.close
     (tie.spec
-    Inv-loop
-    μ-loop
-    code-length-requires
-    add-after-targets
-    after-targets-requires
-    after-targets-requires-2
-    loop-holds
+    targets-below-requires
+    add-targets-below
+    targets-below-requires-2
+    backward-requires
+    enum-known-sought
     target-requires
-    add-cost
-    label-requires
     cast-target
+    sub-t11
+    add-t12
+    cast-t13
     returns
-    next-place-requires
-    loop-less
-    loop-again
+    enum-told
+    sub-forward-step
+    cast-forward-step
     forward-step-requires
     returns-2)

@@ -1,21 +1,14 @@
 -- `forward_step` meets its contract. The forward label of p is that of target p + 1. Assumes nothing.
-use mathlib.Core.Path.{_≡_, _∙_, sym}
-use mathlib.Core.List.{List}
-use Prim.Native.Nat.{ℕ, _+_}
+use mathlib.Core.Path.{_∙_, sym}
 use native.Mathlib.Numerals.{add-one}
 use native.Mathlib.Omega.{arith}
 use borrow.Author.Needs.{needs}
-use Rattle.words.specs.Words.{byte}
-use Rattle.automaton.specs.Arrows.{label}
-use Rattle.automaton.proofs.Targets.{label-suc}
+use Rattle.automaton.proofs.Targets.{label-next}
 use Rattle.automaton.proofs.Steps.{forward-on, forward-off, forward-past}
 use Rattle.sheets.specs.Sheet.{named}
 use Rattle.sheets.proofs.Sheets.{begins-bounds}
 use Rattle.finder.proofs.forward_step.Statement.{statement}
 use Rattle.finder.proofs.forward_step.Tie as tie
-
-forward-label : (w : List ℕ) (p : ℕ) → label w (p + 1) ≡ byte w p
-forward-label w p = rw (add-one p) (label-suc w p)
 
 add-label : tie.Need-add-label
 add-label c = search needs
@@ -27,7 +20,7 @@ add-t10 : tie.Need-add-t10
 add-t10 c = search needs
 
 cast-t11 : tie.Need-cast-t11
-cast-t11 c = let q = c .before .before .before .before .pre in omega (arith, q .1, q .2, begins-bounds _ (q .0))
+cast-t11 c = let q = c .before .before .before .before .pre in omega (arith, q .0 .m-is, q .1, begins-bounds _ (q .0 .on))
 
 add-t12 : tie.Need-add-t12
 add-t12 c = search needs
@@ -37,7 +30,7 @@ returns c =
     let a = c .before .before .before .before .args in
     let w = named (a .sheet .now) in
     rw (add-one, add-one)
-    (sym (forward-on (a .cost) w (a .p) (a .byte) (omega arith) (sym (c .before .label .ensures ∙ forward-label w (a .p)) ∙ c .if2 .taken)))
+    (sym (forward-on (a .cost) w (a .p) (a .byte) (omega arith) (sym (c .before .label .ensures ∙ label-next w (a .p)) ∙ c .if2 .taken)))
 
 add-t14 : tie.Need-add-t14
 add-t14 c = search needs
@@ -48,7 +41,7 @@ returns-2 c =
     let w = named (a .sheet .now) in
     rw add-one
     (sym
-    (forward-off (a .cost) w (a .p) (a .byte) (omega arith) (λ e. c .if2 .left (c .before .label .ensures ∙ forward-label w (a .p) ∙ e))))
+    (forward-off (a .cost) w (a .p) (a .byte) (omega arith) (λ e. c .if2 .left (c .before .label .ensures ∙ label-next w (a .p) ∙ e))))
 
 returns-3 : tie.Need-returns-3
 returns-3 c = let a = c .before .before .args in sym (forward-past (a .cost) (named (a .sheet .now)) (a .p) (a .byte) (omega arith))

@@ -1,81 +1,202 @@
--- `from_start` meets its contract. By whether the code's first byte comes before the piece ends. Assumes nothing.
+-- `from_start` meets its contract. The loop keeps that the bytes so far lead to state 0. Assumes nothing.
+use mathlib.Core.Path.{_≡_, sym, _∙_}
+use Prim.Native.Nat.{_*_, _-_, _≤_, _<_}
 use native.Mathlib.Nat.{le-refl}
 use native.Mathlib.Omega.{arith}
 use borrow.Author.Needs.{needs}
-use Rattle.automaton.specs.Arrows.{label}
+use lib.ListN.{length}
+use Rattle.runs.specs.Reading.{longest-text}
+use Rattle.automaton.specs.Arrows.{label, arrows}
+use Rattle.automaton.proofs.Counts.{below-suc, below-one}
+use Rattle.codes.specs.Codes.{longest-code}
 use Rattle.sheets.specs.Sheet.{named}
 use Rattle.sheets.proofs.Sheets.{begins-bounds}
 use Rattle.finder.specs.Inside.{Skipped}
-use Rattle.finder.proofs.Walking.{so-turned, so-bounds}
-use Rattle.finder.proofs.Starting.{turned-missed, so-start}
+use Rattle.finder.proofs.Starting.{Started, started, started-bounds, started-end, started-missed, started-first, started-stayed, started-two}
+use Rattle.finder.proofs.Starting.{started-again, led-as}
 use Rattle.finder.proofs.from_start.Statement.{statement}
 use Rattle.finder.proofs.from_start.Tie as tie
 
--- the byte that is looked for is the first label
-skipped : (c : tie.After-skip) → let a = c .before .before .before .before .args in
-    Skipped (a .piece .now) (a .i) (label (named (a .sheet .now)) 1) (c .skip .result)
+abbrev Inv-loop : tie.InvT-loop
+Inv-loop sheet m piece from failed₀ i₀ failed i = Started sheet m piece from failed i
+
+abbrev μ-loop : tie.MeasureT-loop
+μ-loop sheet m piece from failed₀ i₀ failed i = length piece - i
+
+abbrev entry : tie.At-loop Inv-loop μ-loop → tie.Start Inv-loop μ-loop
+entry c = c .before .before .before
+
+-- IN A TURN: the byte that is looked for is the first label
+abbrev turn : tie.After-skip Inv-loop μ-loop → tie.At-loop Inv-loop μ-loop
+turn c = c .before .before .before
+
+skipped : (c : tie.After-skip Inv-loop μ-loop) → let t = turn c in
+    let a = entry t .args in Skipped (a .piece .now) (t .loop .i) (label (named (a .sheet .now)) 1) (c .skip .result)
 skipped c = rw (c .before .label .ensures) at (c .skip .ensures)
 
-label-requires : tie.Need-label-requires
-label-requires c κs = let b = c .before .before .pre .on in (b, le-refl 1, begins-bounds _ b .0)
+-- it is there
+here : (c : tie.Else1 Inv-loop μ-loop) → c .before .skip .result < length (entry (turn (c .before)) .args .piece .now)
+here c = omega (arith, skipped (c .before) .within, c .if1 .left)
 
-skip-requires : tie.Need-skip-requires
-skip-requires c κs = search needs
+-- in state 1, with m of 2 or more
+two : (c : tie.Else2 Inv-loop μ-loop) → 2 ≤ entry (turn (c .before .before)) .args .m
+two c =
+    let q = entry (turn (c .before .before)) .pre .sheet in
+    omega (arith, c .if2 .left, q .m-is, begins-bounds _ (q .on))
 
-sub-cost : tie.Need-sub-cost
-sub-cost c = search needs
+there : (c : tie.Else3 Inv-loop μ-loop) → let s = c .before .before .before .before in
+    c .before .stay-one .result < length (entry (turn s) .args .piece .now)
+there c = omega (arith, c .before .stay-one .ensures .within, c .if3 .left)
 
-returns : tie.Need-returns
+-- what sums need
+early : (c : tie.After-skip Inv-loop μ-loop) → let t = turn c in
+    let n = length (entry t .args .piece .now) in
+    (entry t .args .from ≤ c .skip .result) × (c .skip .result ≤ n) × (t .loop .failed ≤ longest-code * n) × (n ≤ longest-text)
+early c =
+    let b = started-bounds (turn c .loop .inv) in
+    (omega (arith, b .0, skipped c .passed .on), skipped c .within, omega (arith, b .0, b .1, b .2), b .3)
+
+late : (c : tie.After-stay-one Inv-loop μ-loop) → let s = c .before .before .before in
+    (entry (turn s) .args .from < c .stay-one .result) × (c .stay-one .result ≤ length (entry (turn s) .args .piece .now))
+late c = let s = c .before .before .before in let y = c .stay-one .ensures in (omega (arith, early s .0, y .passed .on), y .within)
+
+failing : (c : tie.After-targets-below Inv-loop μ-loop) → let s = c .before .before .before .before .before in
+    c .targets-below .result ≡ arrows (named (entry (turn s) .args .sheet .now)) 1
+failing c =
+    let w = named (entry (turn (c .before .before .before .before .before)) .args .sheet .now) in
+    omega (arith, c .targets-below .ensures .0, below-suc w 1, below-one w)
+
+loop-holds : tie.Need-loop-holds Inv-loop μ-loop
+loop-holds c = started (c .before .before .pre)
+
+label-requires : tie.Need-label-requires Inv-loop μ-loop
+label-requires c κs = let b = entry (c .before) .pre .sheet .on in (b, le-refl 1, begins-bounds _ b .0)
+
+skip-requires : tie.Need-skip-requires Inv-loop μ-loop
+skip-requires c κs = started-bounds (c .before .before .loop .inv) .1
+
+led-to-requires : tie.Need-led-to-requires Inv-loop μ-loop
+led-to-requires c κs = let b = early (c .before) in (b .0, omega (arith, b .1, b .2, b .3))
+
+returns : tie.Need-returns Inv-loop μ-loop
 returns c =
-    let s = c .before in
-    turned-missed (s .before .before .before .before .pre) (s .skip .result) (skipped s) (omega (arith, c .if1 .taken))
-
-shared-slice-read-first-step : tie.Need-shared-slice-read-first-step
-shared-slice-read-first-step c = search needs
-
-first-step-requires : tie.Need-first-step-requires
-first-step-requires c κs =
     let s = c .before .before in
-    let e = skipped s in
-    (s .before .before .before .before .pre .on, e .found (omega (arith, e .within, c .before .if1 .left)))
+    led-as _ _ (c .led-to .ensures) (started-missed (turn s .loop .inv) _ (skipped s) (omega (arith, c .before .if1 .taken)))
 
-cast-come-to : tie.Need-cast-come-to
-cast-come-to c = search needs
+add-led-to : tie.Need-add-led-to Inv-loop μ-loop
+add-led-to c = let b = early (c .before .before) in omega (arith, b .1, b .3)
 
-add-come-to : tie.Need-add-come-to
-add-come-to c = search needs
+led-to-requires-2 : tie.Need-led-to-requires-2 Inv-loop μ-loop
+led-to-requires-2 c κs = let b = early (c .before .before) in (omega (arith, b .0), omega (arith, b .1, b .2, b .3))
 
-add-come-to-2 : tie.Need-add-come-to-2
-add-come-to-2 c = search needs
-
-come-to-requires : tie.Need-come-to-requires
-come-to-requires c κs =
-    let f = c .before .first-step in
-    let e = c .before .before .before in
-    let s = e .before in
-    let b = so-bounds (so-start (s .before .before .before .before .pre) (s .skip .result) (skipped s) (e .if1 .left) (f .result) (f .ensures)) in
-    (b .3, b .4)
-
-returns-2 : tie.Need-returns-2
+returns-2 : tie.Need-returns-2 Inv-loop μ-loop
 returns-2 c =
-    let f = c .before .before .first-step in
-    let e = c .before .before .before .before in
+    let e = c .before .before in
     let s = e .before in
-    so-turned (so-start (s .before .before .before .before .pre) (s .skip .result) (skipped s) (e .if1 .left) (f .result) (f .ensures))
-    (c .come-to .result) (c .come-to .ensures)
+    led-as _ _ (c .led-to2 .ensures) (started-first (turn s .loop .inv) _ (skipped s) (here e))
+
+add-stay-one : tie.Need-add-stay-one Inv-loop μ-loop
+add-stay-one c = let b = early (c .before .before) in omega (arith, b .1, b .3)
+
+stay-one-requires : tie.Need-stay-one-requires Inv-loop μ-loop
+stay-one-requires c κs = (entry (turn (c .before .before)) .pre .sheet, two c, omega (arith, here (c .before)))
+
+led-to-requires-3 : tie.Need-led-to-requires-3 Inv-loop μ-loop
+led-to-requires-3 c κs =
+    let b = early (c .before .before .before .before) in
+    let k = late (c .before) in
+    (omega (arith, k .0), omega (arith, k .1, b .2, b .3))
+
+returns-3 : tie.Need-returns-3 Inv-loop μ-loop
+returns-3 c =
+    let y = c .before .before in
+    let e = y .before in
+    let s = e .before .before in
+    led-as _ _ (c .led-to3 .ensures) (started-stayed (turn s .loop .inv) _ (skipped s) (here (e .before)) (two e) _ (y .stay-one .ensures))
+
+targets-below-requires : tie.Need-targets-below-requires Inv-loop μ-loop
+targets-below-requires c κs =
+    let e = c .before .before in
+    (entry (turn (e .before .before)) .pre .sheet, omega arith, omega (arith, two e))
+
+add-failed : tie.Need-add-failed Inv-loop μ-loop
+add-failed c = let b = early (c .before .before .before .before .before) in omega (arith, c .targets-below .ensures .1, b .2, b .3)
+
+add-i : tie.Need-add-i Inv-loop μ-loop
+add-i c = let b = early (c .before .before .before .before .before) in omega (arith, there (c .before), b .3)
+
+shared-slice-read-if4 : tie.Need-shared-slice-read-if4 Inv-loop μ-loop
+shared-slice-read-if4 c = there (c .before .before)
+
+label-requires-2 : tie.Need-label-requires-2 Inv-loop μ-loop
+label-requires-2 c κs =
+    let e = c .before .before .before .before in
+    let q = entry (turn (e .before .before)) .pre .sheet in
+    (q .on, omega arith, omega (arith, two e, q .m-is))
+
+led-to-requires-4 : tie.Need-led-to-requires-4 Inv-loop μ-loop
+led-to-requires-4 c κs =
+    let n = c .before .before .before in
+    let b = early (n .before .before .before .before .before) in
+    (omega (arith, late (n .before .before) .0), omega (arith, there (n .before), n .targets-below .ensures .1, b .2, b .3))
+
+returns-4 : tie.Need-returns-4 Inv-loop μ-loop
+returns-4 c =
+    let l = c .before .before in
+    let n = l .before .before in
+    let e = n .before .before .before in
+    let s = e .before .before in
+    led-as _ _ (c .led-to4 .ensures)
+    (started-two (turn s .loop .inv) _ (skipped s) (here (e .before)) (two e) _ (n .before .before .stay-one .ensures) (there (n .before)) _ (failing n)
+    (c .before .if4 .taken ∙ l .label2 .ensures))
+
+loop-less : tie.Need-loop-less Inv-loop μ-loop
+loop-less c =
+    let n = c .before .before .before in
+    let b = late (n .before .before) in
+    omega (arith, there (n .before), skipped (n .before .before .before .before .before) .passed .on, n .before .before .stay-one .ensures .passed .on)
+
+loop-again : tie.Need-loop-again Inv-loop μ-loop
+loop-again c =
+    let l = c .before in
+    let n = l .before .before in
+    let e = n .before .before .before in
+    let s = e .before .before in
+    started-again (turn s .loop .inv) _ (skipped s) (here (e .before)) (two e) _ (n .before .before .stay-one .ensures) (there (n .before)) _ (failing n)
+    (λ z. c .if4 .left (z ∙ sym (l .label2 .ensures)))
+
+led-to-requires-5 : tie.Need-led-to-requires-5 Inv-loop μ-loop
+led-to-requires-5 c κs = let b = started-bounds (c .before .loop .inv) in (b .0, omega (arith, b .0, b .1, b .2, b .3))
+
+returns-5 : tie.Need-returns-5 Inv-loop μ-loop
+returns-5 c = led-as _ _ (c .led-to5 .ensures) (started-end (c .before .before .loop .inv) (c .before .loop-test .left))
 
 pub from-start-spec : {M : Type 1} → statement M
 from-start-spec =
     tie.close
     (tie.spec
+    Inv-loop
+    μ-loop
+    loop-holds
     label-requires
     skip-requires
-    sub-cost
+    led-to-requires
     returns
-    shared-slice-read-first-step
-    first-step-requires
-    cast-come-to
-    add-come-to
-    add-come-to-2
-    come-to-requires
-    returns-2)
+    add-led-to
+    led-to-requires-2
+    returns-2
+    add-stay-one
+    stay-one-requires
+    led-to-requires-3
+    returns-3
+    targets-below-requires
+    add-failed
+    add-i
+    shared-slice-read-if4
+    label-requires-2
+    led-to-requires-4
+    returns-4
+    loop-less
+    loop-again
+    led-to-requires-5
+    returns-5)

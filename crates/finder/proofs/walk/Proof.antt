@@ -4,23 +4,24 @@ use native.Mathlib.Omega.{arith}
 use borrow.Author.Needs.{needs}
 use borrow.Author.Tests.{ltb-true}
 use lib.ListN.{length}
-use Rattle.finder.proofs.Walking.{So-far, so-first, so-bounds, so-more, so-turned}
+use Rattle.finder.proofs.Walking.{Walked, walked-step, walked-bounds, walked-reading, walked-more}
 use Rattle.finder.proofs.walk.Statement.{statement}
 use Rattle.finder.proofs.walk.Tie as tie
 
 abbrev Inv-loop : tie.InvT-loop
-Inv-loop sheet m before p piece from state₀ cost₀ i₀ state cost i = So-far sheet m before p piece from state cost i
+Inv-loop sheet m p piece from state₀ cost₀ i₀ state cost i = Walked sheet m p piece from state cost i
 
 abbrev μ-loop : tie.MeasureT-loop
-μ-loop sheet m before p piece from state₀ cost₀ i₀ state cost i = length piece - i
+μ-loop sheet m p piece from state₀ cost₀ i₀ state cost i = length piece - i
 
 shared-slice-read-follow : tie.Need-shared-slice-read-follow Inv-loop μ-loop
 shared-slice-read-follow c = search needs
 
 follow-requires : tie.Need-follow-requires Inv-loop μ-loop
-follow-requires c κs =
-    let g = c .before .before .before .pre .0 in
-    (g .on, c .before .before .before .pre .1, omega (arith, g .state, g .m-is))
+follow-requires c κs = search needs
+
+cast-state : tie.Need-cast-state Inv-loop μ-loop
+cast-state c = search needs
 
 cast-cost : tie.Need-cast-cost Inv-loop μ-loop
 cast-cost c = search needs
@@ -29,43 +30,40 @@ add-i : tie.Need-add-i Inv-loop μ-loop
 add-i c = search needs
 
 loop-holds : tie.Need-loop-holds Inv-loop μ-loop
-loop-holds c = so-first (c .before .before .before .before .before .pre .0) (c .before .follow .result) (c .before .follow .ensures)
+loop-holds c =
+    let f = c .before .before in
+    walked-step (f .before .before .before .before .pre .0) (f .follow .result) (f .follow .ensures)
 
-cast-follow : tie.Need-cast-follow Inv-loop μ-loop
-cast-follow c = search needs
-
-shared-slice-read-follow-2 : tie.Need-shared-slice-read-follow-2 Inv-loop μ-loop
-shared-slice-read-follow-2 c = search needs
-
-follow-requires-2 : tie.Need-follow-requires-2 Inv-loop μ-loop
-follow-requires-2 c κs =
-    let f = c .before .before .before .before .loop .inv in
-    (f .began .on, ltb-true _ _ (c .before .before .if1 .taken), omega (arith, so-bounds f .2, f .began .m-is))
-
-cast-cost-2 : tie.Need-cast-cost-2 Inv-loop μ-loop
-cast-cost-2 c = search needs
+stretch-requires : tie.Need-stretch-requires Inv-loop μ-loop
+stretch-requires c κs =
+    let l = c .before .before in
+    let short = ltb-true _ _ (c .if2 .taken) in
+    (walked-reading (l .before .loop .inv) (l .loop-test .taken) short, ltb-true _ _ (c .before .if1 .taken), short)
 
 add-cost : tie.Need-add-cost Inv-loop μ-loop
-add-cost c = let b = so-bounds (c .before .before .before .before .before .before .loop .inv) in omega (arith, b .5, b .6)
-
-add-i-2 : tie.Need-add-i-2 Inv-loop μ-loop
-add-i-2 c = search needs
+add-cost c =
+    let s = c .before in
+    let v = s .stretch .ensures .leads in
+    let b = walked-bounds (s .before .before .before .before .loop .inv) in
+    omega (arith, b .1, b .2, b .3, v .cheap, v .on, v .within)
 
 loop-less : tie.Need-loop-less Inv-loop μ-loop
-loop-less c = search needs
+loop-less c = let v = c .before .stretch .ensures in omega (arith, v .later, v .leads .within)
 
 loop-again : tie.Need-loop-again Inv-loop μ-loop
 loop-again c =
-    let f = c .before .follow2 in
-    let b = c .before .before .before in
-    let l = b .before .before in
-    so-more (l .before .loop .inv) (l .loop-test .taken) (ltb-true _ _ (b .if2 .taken)) (f .result) (f .ensures)
-
-come-to-requires : tie.Need-come-to-requires Inv-loop μ-loop
-come-to-requires c κs = let b = so-bounds (c .before .loop .inv) in (b .3, b .4)
+    let s = c .before in
+    let l = s .before .before .before in
+    walked-more (l .before .loop .inv) (l .loop-test .taken) (ltb-true _ _ (s .before .if2 .taken)) (s .stretch .result) (s .stretch .ensures)
 
 returns : tie.Need-returns Inv-loop μ-loop
-returns c = so-turned (c .before .before .loop .inv) (c .come-to .result) (c .come-to .ensures)
+returns c = let v = c .before .before .before .loop .inv in record { later = v .later; leads = v .leads }
+
+returns-2 : tie.Need-returns-2 Inv-loop μ-loop
+returns-2 c = let v = c .before .before .loop .inv in record { later = v .later; leads = v .leads }
+
+returns-3 : tie.Need-returns-3 Inv-loop μ-loop
+returns-3 c = let v = c .before .loop .inv in record { later = v .later; leads = v .leads }
 
 pub walk-spec : {M : Type 1} → statement M
 walk-spec =
@@ -75,16 +73,14 @@ walk-spec =
     μ-loop
     shared-slice-read-follow
     follow-requires
+    cast-state
     cast-cost
     add-i
     loop-holds
-    cast-follow
-    shared-slice-read-follow-2
-    follow-requires-2
-    cast-cost-2
+    stretch-requires
     add-cost
-    add-i-2
     loop-less
     loop-again
-    come-to-requires
-    returns)
+    returns
+    returns-2
+    returns-3)
