@@ -1,7 +1,7 @@
 -- The labels of a state, compared one by one: the backward ones by falling target. Assumes nothing.
 use mathlib.Core.Path.{_≡_, refl, sym, ap, _∙_}
 use mathlib.Core.Logic.{_≢_}
-use mathlib.Core.List.{List, _∷_}
+use mathlib.Core.List.{List}
 use Prim.Native.Nat.{ℕ, zero, suc, _+_, _-_, _≤_, _<_}
 use native.Mathlib.Numerals.{add-one}
 use native.Mathlib.Omega.{arith}
@@ -17,12 +17,12 @@ use Rattle.automaton.proofs.Steps.{back-on, back-nil, back-passed}
 use Rattle.finder.specs.declared.Sought.the-variants.{At, Nowhere}
 use Rattle.finder.specs.Inside.{Passed, target-of, Sought-by}
 
--- every target is a state, and not 0
 module _ (w : List ℕ) where
   -- number n of a state's targets
   target-here : (p n : ℕ) → p ≤ length w → n < arrows w p → target-of w (arrows-below w p + n) ≡ getD (back-targets w p) n 0
   target-here p n ok h = target-at w (suc (length w)) p n (omega arith) h
 
+  -- every target is a state, and not 0
   below-inside : (s l : ℕ) → s ≤ suc (length w) → l < arrows-below w s → (1 ≤ target-of w l) × (target-of w l ≤ length w)
   below-inside zero l h i = absurd (omega (arith, below-zero w))
   below-inside (suc p) l h i =
@@ -71,7 +71,7 @@ module _ (w : List ℕ) (p : ℕ) (ok : p ≤ length w) (from to : ℕ) (e : fro
       ∙ rw (drop-of-length-le (back-targets w p) {i = n} (omega arith), n-is) (back-nil n w p c)
 
   -- up to one that is c
-  pub compared-at : (c l t : ℕ) → Sought-by w from to c (At l) → t ≡ target-of w l → stepped w p c ≡ step t (suc (l - from)) (Back t)
+  pub compared-at : (c l t : ℕ) → Sought-by w from to c (At l) → t ≡ target-of w l → stepped w p c ≡ step t (l - from + 1) (Back t)
   compared-at c l t q g =
       let n : ℕ = l - from in
       let on : from ≤ l = q .0 .on in
@@ -79,4 +79,4 @@ module _ (w : List ℕ) (p : ℕ) (ok : p ≤ length w) (from to : ℕ) (e : fro
       let inside : n < arrows w p = omega (arith, q .1, to-is) in
       let is : getD (back-targets w p) n 0 ≡ t = sym (g ∙ ap (target-of w) (sym at) ∙ here n inside) in
       others c n (omega arith) (rw at (q .0))
-      ∙ rw (drop-cons (back-targets w p) n 0 inside, is) (back-on t (drop (suc n) (back-targets w p)) n w p c (ap (label w) g ∙ q .2))
+      ∙ rw (drop-cons (back-targets w p) n 0 inside, is, add-one n) (back-on t (drop (suc n) (back-targets w p)) n w p c (ap (label w) g ∙ q .2))

@@ -1,10 +1,9 @@
--- Forward arrows followed in a row, and the byte that follows none. Assumes nothing.
-use mathlib.Core.Path.{_≡_, refl, sym, _∙_}
+-- Forward arrows followed in a row, and the byte that does not follow one. Assumes nothing.
+use mathlib.Core.Path.{_≡_, sym, _∙_}
 use mathlib.Core.Logic.{_≢_}
 use mathlib.Core.List.{List}
 use Prim.Native.Nat.{ℕ, suc, _+_, _-_, _≤_, _<_, min}
 use native.Mathlib.Nat.{add-zero, le-refl}
-use native.Mathlib.Numerals.{add-one}
 use native.Mathlib.Omega.{arith}
 use lib.ListN.{length, getD}
 use Rattle.runs.specs.Reading.{longest-text}
@@ -24,7 +23,7 @@ use Rattle.finder.specs.Inside.{target-of, Sought-by, Leads, Readable, W
 use Rattle.finder.proofs.Comparing.{state-rise, compared-none, compared-at}
 use Rattle.finder.proofs.Leading.{step-cheap, leads-none, leads-step}
 
--- from state p and place i: j of so many bytes followed a forward arrow. The targets of p start at one number, and those of the next state at l
+-- from state p and index i: j of so many bytes followed a forward arrow. The targets of p start at one number, and those of the next state at l
 pub record Forwards (bs : List ℕ) (m p : ℕ) (piece : List ℕ) (i start count l j : ℕ) : Type 0 where
   pub began : Readable bs m p piece i
   pub count-is : count ≡ min (length piece - i) (m - p)
@@ -107,11 +106,11 @@ module _
         let on : l ≤ b = q .0 .on in
         let under : b < end = q .1 in
         let first : start ≤ l = s .on in
-        let cost : l - start + j + suc (b - l) ≡ b - start + j + 1 = omega arith in
+        let cost : l - start + j + (b - l + 1) ≡ b - start + j + 1 = omega arith in
         record {
           bytes = omega (arith, inside);
           few = omega (arith, forwards-rise .2);
-          by = rw cost at (went (step t (suc (b - l)) (Back t)) (sym (compared-at w (p + j) (omega (arith, low)) l end (s .l-is) e c b t q f)));
+          by = rw cost at (went (step t (b - l + 1) (Back t)) (sym (compared-at w (p + j) (omega (arith, low)) l end (s .l-is) e c b t q f)));
         }
 
     -- none is

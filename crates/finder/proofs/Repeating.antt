@@ -3,7 +3,7 @@ use mathlib.Core.Path.{_≡_, refl, sym, ap, _∙_}
 use mathlib.Core.Bool.{false}
 use mathlib.Core.Logic.{_≢_}
 use mathlib.Core.List.{List, [], _∷_, _++_, append-nil, append-assoc}
-use Prim.Native.Nat.{ℕ, zero, suc, _+_, _*_, _-_, _≤_, _<_}
+use Prim.Native.Nat.{ℕ, zero, suc, _+_, _-_, _≤_, _<_}
 use native.Mathlib.Nat.{add-zero}
 use native.Mathlib.Numerals.{add-one}
 use native.Mathlib.Omega.{arith}
@@ -194,11 +194,11 @@ module _ (w : List ℕ) (m from to : ℕ) (m-is : m ≡ length w) (e : from ≡ 
   count : arrows w m ≡ to - from
   count = omega (arith, e, f, below-suc w m, ap (arrows-below w) (add-one m))
 
-  pub repeats-not : to - from ≢ 1 → false ≡ same (back-targets w m) (m ∷ [])
-  repeats-not n = sym (not-same (back-targets w m) (m ∷ []) (λ z. n (sym count ∙ ap length z)))
+  pub own-not : to - from ≢ 1 → false ≡ same (back-targets w m) (m ∷ [])
+  own-not n = sym (not-same (back-targets w m) (m ∷ []) (λ z. n (sym count ∙ ap length z)))
 
-  pub repeats-by : to - from ≡ 1 → (t : ℕ) → t ≡ target-of w from → eqb t m ≡ same (back-targets w m) (m ∷ [])
-  repeats-by one t g =
+  pub own-by : to - from ≡ 1 → (t : ℕ) → t ≡ target-of w from → eqb t m ≡ same (back-targets w m) (m ∷ [])
+  own-by one t g =
       let some : 0 < arrows w m = omega (arith, count) in
       let at : arrows-below w m + 0 ≡ from = omega (arith, e) in
       let is : t ≡ getD (back-targets w m) 0 0 =

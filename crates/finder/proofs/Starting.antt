@@ -42,7 +42,7 @@ module _ (w piece : List ℕ) (from : ℕ) (h : from ≤ length piece) where
 pub led-as : {w piece : List ℕ} {p i : ℕ} (s t : Led) → s ≡ t → Led-from w piece p i t → Led-from w piece p i s
 led-as s t e m = rw e m
 
--- the bytes from a place to place i lead to 0: one comparison for each, and the labels that failed besides
+-- the bytes from one index to index i lead to 0: one comparison for each, and the labels that failed besides
 pub record Started (bs : List ℕ) (m : ℕ) (piece : List ℕ) (from failed i : ℕ) : Type 0 where
   pub began : Readable bs m 0 piece from
   pub leads : Leads (named bs) piece 0 from 0 (i - from + failed) i

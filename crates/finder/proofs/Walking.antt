@@ -14,7 +14,7 @@ use Rattle.finder.specs.declared.Led.{Led}
 use Rattle.finder.specs.Inside.{Leads, Led-from, Readable}
 use Rattle.finder.proofs.Leading.{step-cheap, leads-byte, leads-on}
 
--- from place i in state p to place j in state q, at a cost of c
+-- from index i in state p to index j in state q, at a cost of c
 pub record Walked (bs : List ℕ) (m p : ℕ) (piece : List ℕ) (i q c j : ℕ) : Type 0 where
   pub began : Readable bs m p piece i
   pub later : i < j

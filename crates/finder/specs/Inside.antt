@@ -32,14 +32,14 @@ pub record Reaches (P Q : ℕ → Type 0) (from end at : ℕ) : Type 0 where
   pub within : at ≤ end
   pub found : at < end → Q at
 
--- byte c stands at place i, or another
+-- byte c stands at index i, or another
 abbrev pub Here : (piece : List ℕ) → (c i : ℕ) → Type 0
 Here cs c i = getD cs i 0 ≡ c
 
 abbrev pub Other : (piece : List ℕ) → (c i : ℕ) → Type 0
 Other cs c i = getD cs i 0 ≢ c
 
--- the first place from a place on where byte c stands, or the end; and the first where another stands
+-- the first index from one on at which byte c stands, or the end; and the first at which another stands
 abbrev pub Skipped : (piece : List ℕ) → (from c at : ℕ) → Type 0
 Skipped cs from c at = Reaches (Other cs c) (Here cs c) from (length cs) at
 
@@ -64,12 +64,12 @@ Sought-by w from to c Nowhere = Passed (λ k. label w (target-of w k) ≢ c) fro
 abbrev pub further : Watch → (state n hits cost : ℕ) → Watch
 further x q n h c = record { state = q; taken = x .taken + n; hits = x .hits + h; compares = x .compares + c }
 
--- feeding goes on behind the bytes from place i to place j as if begun there, after what they told: from watch x with so much room, from watch y with what
+-- feeding goes on behind the bytes from index i to index j as if begun there, after what they told: from watch x with so much room, from watch y with what
 -- is left of it
 pub record Goes-on (w piece : List ℕ) (i j room : ℕ) (told : List ℕ) (x y : Watch) : Type 0 where
   pub is : feed w (drop i piece) room x ≡ fed-more (j - i) told (feed w (drop j piece) (room - length told) y)
 
--- WHERE BYTES LEAD, the one invariant of the loops: those from place i to place j lead from state p to state q at a cost, and only the last of them may
+-- WHERE BYTES LEAD, the one invariant of the loops: those from index i to index j lead from state p to state q at a cost, and only the last of them may
 -- complete a place. So feeding goes on behind them, whatever else the watch holds
 pub record Leads (w piece : List ℕ) (p i q cost j : ℕ) : Type 0 where
   pub on : i ≤ j
@@ -81,12 +81,12 @@ pub record Leads (w piece : List ℕ) (p i q cost j : ℕ) : Type 0 where
       (x : Watch) → x .state ≡ p → (k : ℕ) → 1 ≤ k →
       let told = completed (length w) q (x .taken + (j - i)) in Goes-on w piece i j k told x (further x q (j - i) (length told) cost)
 
--- so some bytes have led from state p and place i
+-- so some bytes have led from state p and index i
 pub record Led-from (w piece : List ℕ) (p i : ℕ) (s : Led) : Type 0 where
   pub later : i < s .at
   pub leads : Leads w piece p i (s .state) (s .cost) (s .at)
 
--- a byte can be read at place i in state p
+-- a byte can be read at index i in state p
 pub record Readable (bs : List ℕ) (m p : ℕ) (piece : List ℕ) (i : ℕ) : Type 0 where
   pub sheet : Sized bs m
   pub state : p ≤ m
@@ -152,7 +152,7 @@ pub record Repeated (piece : List ℕ) (from count c k last : ℕ) (ps : List �
   pub stopped : Reaches (Here piece c) (Other piece c) from (from + count) (from + n)
   pub written : Written ps k (in-a-row (last + 1) n) (k + n) qs
 
--- THE LOOP OVER A PIECE, which has so many bytes of text before it. A turn can start in state p at place i, with k places written
+-- THE LOOP OVER A PIECE, which has so many bytes of text before it. A turn can start in state p at index i, with k places written
 pub record Turning (bs : List ℕ) (m before p : ℕ) (piece : List ℕ) (i : ℕ) (ps : List ℕ) (k : ℕ) : Type 0 where
   pub sheet : Sized bs m
   pub state : p ≤ m

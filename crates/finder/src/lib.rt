@@ -104,13 +104,13 @@ enum Sought {
     Nowhere,
 }
 
-// The first of the targets from number `from` up to `to` whose label is the byte. Each turn compares one label.
-fn backward(sheet: &[u8], m: usize, from: usize, to: usize, byte: u8) -> Sought
-    requires { ⌜ Sized (now sheet) m × (from ≤ to) × (to ≤ back-arrows (named (now sheet))) ⌝ }
-    ensures { λ r. ⌜ Sought-by (named (now (sheet .entry))) from to byte r ⌝ }
+// The first of the targets from number `start` up to `end` whose label is the byte. Each turn compares one label.
+fn backward(sheet: &[u8], m: usize, start: usize, end: usize, byte: u8) -> Sought
+    requires { ⌜ Sized (now sheet) m × (start ≤ end) × (end ≤ back-arrows (named (now sheet))) ⌝ }
+    ensures { λ r. ⌜ Sought-by (named (now (sheet .entry))) start end byte r ⌝ }
 {
-    let mut l = from;
-    while l < to {
+    let mut l = start;
+    while l < end {
         if label(sheet, target(sheet, m, l)) == byte {
             return Sought::At(l);
         }
@@ -150,18 +150,18 @@ fn follow(sheet: &[u8], m: usize, p: usize, byte: u8) -> Step
     requires { ⌜ Sized (now sheet) m × (1 ≤ p) × (p ≤ m) ⌝ }
     ensures { λ r. ⌜ r ≡ stepped (named (now (sheet .entry))) p byte ⌝ }
 {
-    let from = targets_below(sheet, m, p);
-    let to = targets_below(sheet, m, p + 1);
-    let sought = backward(sheet, m, from, to, byte);
+    let start = targets_below(sheet, m, p);
+    let end = targets_below(sheet, m, p + 1);
+    let sought = backward(sheet, m, start, end, byte);
     if let Sought::At(l) = sought {
-        let target = target(sheet, m, l) as u32;
+        let t = target(sheet, m, l) as u32;
         return Step {
-            state: target,
-            cost: (l - from + 1) as u32,
-            arrow: Arrow::Back(target),
+            state: t,
+            cost: (l - start + 1) as u32,
+            arrow: Arrow::Back(t),
         };
     }
-    forward_step(sheet, m, p, byte, (to - from) as u32)
+    forward_step(sheet, m, p, byte, (end - start) as u32)
 }
 
 // MANY BYTES: where they lead, and what they cost. No byte is compared twice with one label.
@@ -173,8 +173,8 @@ fn least(a: usize, b: usize) -> usize
     if a < b { a } else { b }
 }
 
-// Where forward arrows have led: how many bytes followed one, how many backward labels were compared and were not equal, and the arrow of the byte behind
-// (`Forward`: it was not looked at).
+// Where forward arrows have led: how many bytes followed one, how many backward labels were compared and were not equal, and the arrow of the byte behind them.
+// Behind the last byte of the piece or of the code none is looked at, and the arrow is `Forward`.
 struct Ahead {
     bytes: usize,
     failed: usize,
@@ -219,14 +219,14 @@ fn go_ahead(sheet: &[u8], m: usize, p: usize, piece: &[u8], i: usize) -> Ahead
     }
 }
 
-// Where some bytes of a piece have led: the state, what they cost, and the place behind them. Only the last of them may have completed a place.
+// Where some bytes of a piece have led: the state, what they cost, and the index behind them. Only the last of them may have completed a place.
 struct Led {
     state: usize,
     cost: u64,
     at: usize,
 }
 
-// From a state between 0 and m: forward arrows, and the byte that follows none.
+// From a state between 0 and m: forward arrows, and the byte, if one is looked at, that does not follow one.
 fn stretch(sheet: &[u8], m: usize, p: usize, piece: &[u8], i: usize) -> Led
     requires { ⌜ Readable (now sheet) m p (now piece) i × (1 ≤ p) × (p < m) ⌝ }
     ensures { λ r. ⌜ Led-from (named (now (sheet .entry))) (now (piece .entry)) p i r ⌝ }
@@ -236,8 +236,8 @@ fn stretch(sheet: &[u8], m: usize, p: usize, piece: &[u8], i: usize) -> Led
     let cost = (r.failed + n) as u64;
     let arrow = r.arrow;
     match arrow {
-        Arrow::Back(target) => Led {
-            state: target as usize,
+        Arrow::Back(t) => Led {
+            state: t as usize,
             cost: cost + 1,
             at: i + n + 1,
         },
@@ -276,7 +276,7 @@ fn walk(sheet: &[u8], m: usize, p: usize, piece: &[u8], from: usize) -> Led
     }
 }
 
-// The first place from a place on where a byte stands, or the end: one comparison for each byte passed, and one for the byte found.
+// The first index from one on at which a byte stands, or the end: one comparison for each byte passed, and one for the byte found.
 fn skip_one(piece: &[u8], from: usize, byte: u8) -> usize
     requires { ⌜ from ≤ length (now piece) ⌝ }
     ensures { λ r. ⌜ Skipped (now (piece .entry)) from byte r ⌝ }
@@ -316,7 +316,7 @@ fn skip(piece: &[u8], from: usize, byte: u8) -> usize
     skip_one(piece, i, byte)
 }
 
-// The first place from a place on where another byte stands, or the end: one comparison for each byte passed, and one for the byte found.
+// The first index from one on at which another byte stands, or the end: one comparison for each byte passed, and one for the byte found.
 fn stay(piece: &[u8], from: usize, byte: u8) -> usize
     requires { ⌜ from ≤ length (now piece) ⌝ }
     ensures { λ r. ⌜ Stayed (now (piece .entry)) from byte r ⌝ }
@@ -331,7 +331,7 @@ fn stay(piece: &[u8], from: usize, byte: u8) -> usize
     i
 }
 
-// In state 1, below m: the first place from a place on whose byte follows no backward arrow, or the end. Such an arrow leads to 1 again, on the code's first
+// In state 1, below m: the first index from one on whose byte follows no backward arrow, or the end. Such an arrow leads to 1 again, on the code's first
 // byte; where that is the forward label too, there is none, and no byte is compared.
 fn stay_one(sheet: &[u8], m: usize, piece: &[u8], from: usize) -> usize
     requires { ⌜ Sized (now sheet) m × (2 ≤ m) × (from ≤ length (now piece)) ⌝ }
@@ -343,7 +343,7 @@ fn stay_one(sheet: &[u8], m: usize, piece: &[u8], from: usize) -> usize
     stay(piece, from, label(sheet, 1))
 }
 
-// The bytes from a place to another have led to a state: one comparison for each, and those that failed besides.
+// The bytes from one index to another have led to a state: one comparison for each, and those that failed besides.
 fn led_to(state: usize, from: usize, at: usize, failed: usize) -> Led
     requires { ⌜ (from ≤ at) × (at + failed < 2 ^ 63) ⌝ }
     ensures { λ r. ⌜ r ≡ led-to state from at failed ⌝ }
@@ -355,8 +355,8 @@ fn led_to(state: usize, from: usize, at: usize, failed: usize) -> Led
     }
 }
 
-// From state 0, and on as long as no byte leads past state 1: up to 1.5 times as fast on plan text as with a turn for each first byte of the code. A byte costs
-// one comparison, and where it leaves state 1 the backward labels of 1 have failed too.
+// From state 0, and on as long as no byte leads past state 1 or completes the code: up to 1.5 times as fast on plan text as with a turn for each first byte of
+// the code. A byte costs one comparison, and where it leaves state 1 the backward labels of 1 have failed too.
 fn from_start(sheet: &[u8], m: usize, piece: &[u8], from: usize) -> Led
     requires { ⌜ Readable (now sheet) m 0 (now piece) from ⌝ }
     ensures { λ r. ⌜ Led-from (named (now (sheet .entry))) (now (piece .entry)) 0 from r ⌝ }
@@ -384,7 +384,7 @@ fn from_start(sheet: &[u8], m: usize, piece: &[u8], from: usize) -> Led
     led_to(0, from, i, failed)
 }
 
-// From any state, as far as the first place that is completed.
+// From any state: some bytes, no further than the first place that is completed.
 fn advance(sheet: &[u8], m: usize, p: usize, piece: &[u8], i: usize) -> Led
     requires { ⌜ Readable (now sheet) m p (now piece) i ⌝ }
     ensures { λ r. ⌜ Led-from (named (now (sheet .entry))) (now (piece .entry)) p i r ⌝ }

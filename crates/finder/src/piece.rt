@@ -21,7 +21,7 @@ use crate::targets_below;
 use runs::Ending;
 use sheets::is_sheet;
 
-// Where a turn of the loop over a piece has come to: the state, what its bytes cost, the place behind them, and the places written so far.
+// Where a turn of the loop over a piece has come to: the state, what its bytes cost, the index behind them, and the places written so far.
 struct Turn {
     state: usize,
     cost: u64,
@@ -48,19 +48,19 @@ fn write_place(m: usize, before: u32, s: Led, places: &mut [u32], k: usize) -> T
 }
 
 // Whether state m has one backward arrow alone, and it leads to m again.
-fn repeats(sheet: &[u8], m: usize) -> bool
+fn has_own_arrow(sheet: &[u8], m: usize) -> bool
     requires { ⌜ Sized (now sheet) m ⌝ }
     ensures { λ r. ⌜ r ≡ same (back-targets (named (now (sheet .entry))) m) (m ∷ []) ⌝ }
 {
-    let from = targets_below(sheet, m, m);
-    if targets_below(sheet, m, m + 1) - from != 1 {
+    let start = targets_below(sheet, m, m);
+    if targets_below(sheet, m, m + 1) - start != 1 {
         return false;
     }
-    target(sheet, m, from) == m
+    target(sheet, m, start) == m
 }
 
-// As many of the next `count` bytes as are one byte, in a row: a comparison for each and one for the byte behind them, if it is looked at. For each a place
-// is written, one more than the last.
+// How many of the next `count` bytes are `byte`, in a row: a comparison for each and one for the byte behind them, if it is looked at. For each a place is
+// written, one more than the last.
 fn repeat(
     piece: &[u8],
     from: usize,
@@ -84,8 +84,8 @@ fn repeat(
     j
 }
 
-// A turn from state m where it repeats: the bytes that lead to m again, a place each, and the one that leads to 0, if it is looked at. Texts full of
-// overlapping places are about 4 times as fast by it.
+// A turn from state m where its one arrow leads to m again: the bytes that follow it, a place each, and the one that leads to 0, if it is looked at. Long rows
+// of one byte are about 4 times as fast by it.
 fn from_whole(
     sheet: &[u8],
     m: usize,
@@ -131,7 +131,7 @@ fn take_turn(
     requires { ⌜ Turning (now sheet) m before p (now piece) i (now places) k ⌝ }
     ensures { λ r. ⌜ Turned (named (now (sheet .entry))) (now (piece .entry)) before p i k (now (places .entry)) r (now (places .exit)) ⌝ }
 {
-    if p == m && repeats(sheet, m) {
+    if p == m && has_own_arrow(sheet, m) {
         return from_whole(sheet, m, before, piece, i, places, k);
     }
     write_place(m, before, advance(sheet, m, p, piece, i), places, k)

@@ -4,7 +4,7 @@ use Prim.Native.Nat.{_-_, _≤_}
 use native.Mathlib.Omega.{arith}
 use borrow.Author.Needs.{needs}
 use mathlib.Core.Logic.{_≢_}
-use Rattle.automaton.specs.Arrows.{label, back-arrows}
+use Rattle.automaton.specs.Arrows.{label}
 use Rattle.sheets.specs.Sheet.{named}
 use Rattle.finder.specs.Inside.{Passed, target-of}
 use Rattle.finder.proofs.Passing.{passed-none, passed-next}
@@ -13,10 +13,10 @@ use Rattle.finder.proofs.backward.Statement.{statement}
 use Rattle.finder.proofs.backward.Tie as tie
 
 abbrev Inv-loop : tie.InvT-loop
-Inv-loop sheet m from to byte l₀ l = Passed (λ k. label (named sheet) (target-of (named sheet) k) ≢ byte) from l × (l ≤ to)
+Inv-loop sheet m start end byte l₀ l = Passed (λ k. label (named sheet) (target-of (named sheet) k) ≢ byte) start l × (l ≤ end)
 
 abbrev μ-loop : tie.MeasureT-loop
-μ-loop sheet m from to byte l₀ l = to - l
+μ-loop sheet m start end byte l₀ l = end - l
 
 -- the label that a turn compares
 label-is : (c : tie.After-label Inv-loop μ-loop) → let a = c .before .before .before .before .before .args in
@@ -55,7 +55,7 @@ loop-again c =
 
 returns-2 : tie.Need-returns-2 Inv-loop μ-loop
 returns-2 c =
-    let at : c .before .loop .l ≡ c .before .before .before .args .to = omega (arith, c .before .loop .inv .1) in
+    let at : c .before .loop .l ≡ c .before .before .before .args .end = omega (arith, c .before .loop .inv .1) in
     rw at at (c .before .loop .inv .0)
 
 pub backward-spec : {M : Type 1} → statement M

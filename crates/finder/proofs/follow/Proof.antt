@@ -1,7 +1,6 @@
 -- `follow` meets its contract. By whether a backward label is the byte. Assumes nothing.
-use mathlib.Core.Path.{_≡_, sym, _∙_}
+use mathlib.Core.Path.{sym, _∙_}
 use Prim.Native.Nat.{_≤_, _<_}
-use native.Mathlib.Numerals.{add-one}
 use native.Mathlib.Omega.{arith}
 use borrow.Author.Needs.{needs}
 use lib.ListN.{length}
@@ -56,8 +55,8 @@ target-requires c κs =
     let k = calls (c .before) in
     (entry k .pre .0, listed (c .before))
 
-cast-target : tie.Need-cast-target
-cast-target c =
+cast-t : tie.Need-cast-t
+cast-t c =
     let q = entry (calls (c .before .before)) .pre in
     omega (arith, c .target .ensures, target-inside _ _ (listed (c .before .before)) .1, begins-bounds _ (q .0 .on))
 
@@ -74,10 +73,9 @@ returns : tie.Need-returns
 returns c =
     let s = c .before .before in
     let k = calls s in
-    rw add-one
-    (sym
+    sym
     (compared-at _ _ (low k) _ _ (k .before .targets-below .ensures .0) (k .targets-below2 .ensures .0) _ _ (c .target .result) (sought-at s)
-    (c .target .ensures)))
+    (c .target .ensures))
 
 enum-told : tie.Need-enum-told
 enum-told c = search needs
@@ -109,7 +107,7 @@ follow-spec =
     backward-requires
     enum-known-sought
     target-requires
-    cast-target
+    cast-t
     sub-t11
     add-t12
     cast-t13

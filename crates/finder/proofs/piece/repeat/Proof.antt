@@ -1,5 +1,4 @@
 -- `repeat` meets its contract. The loop keeps that a place is written for each byte passed. Assumes nothing.
-use mathlib.Core.Path.{sym}
 use Prim.Native.Nat.{_-_}
 use native.Mathlib.Omega.{arith}
 use borrow.Author.Needs.{needs}

@@ -1,4 +1,4 @@
--- `take_turn` meets its contract. By whether state m repeats. Assumes nothing.
+-- `take_turn` meets its contract. By whether state m has one arrow alone, to m again. Assumes nothing.
 use mathlib.Core.Path.{sym, _∙_}
 use borrow.Author.Needs.{needs}
 use Rattle.words.proofs.Lists.{same-eq}
@@ -6,13 +6,13 @@ use Rattle.finder.proofs.Taking.{turned-by}
 use Rattle.finder.proofs.piece.take_turn.Statement.{statement}
 use Rattle.finder.proofs.piece.take_turn.Tie as tie
 
-repeats-requires : tie.Need-repeats-requires
-repeats-requires c κs = search needs
+has-own-arrow-requires : tie.Need-has-own-arrow-requires
+has-own-arrow-requires c κs = search needs
 
 from-whole-requires : tie.Need-from-whole-requires
 from-whole-requires c κs =
     let r = c .before .before in
-    (rw (r .before .if1 .taken) at (r .before .before .before .before .before .pre), same-eq _ _ (sym (r .repeats .ensures) ∙ c .before .if2 .taken))
+    (rw (r .before .if1 .taken) at (r .before .before .before .before .before .pre), same-eq _ _ (sym (r .has-own-arrow .ensures) ∙ c .before .if2 .taken))
 
 same-length : tie.Need-same-length
 same-length c = search needs
@@ -41,7 +41,7 @@ pub take-turn-spec : {M : Type 1} → statement M
 take-turn-spec =
     tie.close
     (tie.spec
-    repeats-requires
+    has-own-arrow-requires
     from-whole-requires
     same-length
     returns

@@ -1,4 +1,4 @@
--- `repeats` meets its contract. By the number of the state's arrows. Assumes nothing.
+-- `has_own_arrow` meets its contract. By the number of the state's arrows. Assumes nothing.
 use Prim.Native.Nat.{_≤_}
 use native.Mathlib.Omega.{arith}
 use borrow.Author.Needs.{needs}
@@ -6,9 +6,9 @@ use Rattle.automaton.specs.Arrows.{back-arrows}
 use Rattle.sheets.specs.Sheet.{named}
 use Rattle.sheets.proofs.Sheets.{begins-bounds}
 use Rattle.finder.proofs.Comparing.{state-rise}
-use Rattle.finder.proofs.Repeating.{repeats-not, repeats-by}
-use Rattle.finder.proofs.piece.repeats.Statement.{statement}
-use Rattle.finder.proofs.piece.repeats.Tie as tie
+use Rattle.finder.proofs.Repeating.{own-not, own-by}
+use Rattle.finder.proofs.piece.has_own_arrow.Statement.{statement}
+use Rattle.finder.proofs.piece.has_own_arrow.Tie as tie
 
 rise : (c : tie.After-targets-below2) → let s = c .before .before .before in
     (c .before .targets-below .result ≤ c .targets-below2 .result) × (c .targets-below2 .result ≤ back-arrows (named (s .args .sheet .now)))
@@ -32,7 +32,7 @@ returns : tie.Need-returns
 returns c =
     let k = c .before in
     let q = k .before .before .before .pre in
-    repeats-not _ _ _ _ (q .m-is) (k .before .targets-below .ensures .0) (k .targets-below2 .ensures .0) (c .if1 .taken)
+    own-not _ _ _ _ (q .m-is) (k .before .targets-below .ensures .0) (k .targets-below2 .ensures .0) (c .if1 .taken)
 
 target-requires : tie.Need-target-requires
 target-requires c κs =
@@ -43,10 +43,10 @@ returns-2 : tie.Need-returns-2
 returns-2 c =
     let k = c .before .before in
     let q = k .before .before .before .pre in
-    repeats-by _ _ _ _ (q .m-is) (k .before .targets-below .ensures .0) (k .targets-below2 .ensures .0) (c .before .if1 .left) _ (c .target .ensures)
+    own-by _ _ _ _ (q .m-is) (k .before .targets-below .ensures .0) (k .targets-below2 .ensures .0) (c .before .if1 .left) _ (c .target .ensures)
 
-pub repeats-spec : {M : Type 1} → statement M
-repeats-spec =
+pub has-own-arrow-spec : {M : Type 1} → statement M
+has-own-arrow-spec =
     tie.close
     (tie.spec
     targets-below-requires
