@@ -1,27 +1,20 @@
-/* compare MB ROUNDS: an earlier build of the finder and today's, on every text and every code; prints two tables.
- *
- * Where a loop begins in a cache line moves its speed by up to a third, and a function may begin at any multiple of 16 bytes. So bench/compare links
- * each build four times, once for each such place in a line of 64, and the fastest copy counts. */
+/* compare MB ROUNDS: an earlier build of the finder and today's, on every text and every code; prints three tables. The fastest copy of a build counts. */
 #include <math.h>
 #include <stdint.h>
 #include <stdio.h>
 #include <stdlib.h>
 
+#include "copies.h"
 #include "figures.h"
 #include "process.h"
 #include "tasks.h"
 
 enum { BEFORE, AFTER, BUILDS };
 enum {
-    COPIES = 4,       /* of a build */
-    LINE = 64,        /* bytes to a cache line */
     CALLS = 4000,     /* feedings to a timing of small pieces */
     PREPARED = 20000, /* bytes of a code to a timing of preparing */
     MORE = 10,        /* rounds of preparing to one of feeding: they are shorter */
 };
-
-/* The copies of an entry, named as bench/compare names them. */
-#define COPIES_OF(build, entry) build##_0_##entry, build##_1_##entry, build##_2_##entry, build##_3_##entry
 
 preparer COPIES_OF(before, entries_prepare), COPIES_OF(after, entries_prepare);
 feeder COPIES_OF(before, entries_feed), COPIES_OF(after, entries_feed);
@@ -67,17 +60,7 @@ static double time_preparing(int build, int copy)
     return sum / (double)(SHAPES * m);
 }
 
-/* Whether the copies begin at different places in a line. */
-static int spread(const uintptr_t *starts)
-{
-    for (int k = 0; k < COPIES; k++)
-        for (int l = 0; l < k; l++)
-            if (starts[k] % LINE == starts[l] % LINE)
-                return 0;
-    return 1;
-}
-
-static void check_copies(void)
+static void check_builds(void)
 {
     for (int b = 0; b < BUILDS; b++) {
         uintptr_t preparing[COPIES], feeding[COPIES];
@@ -86,8 +69,8 @@ static void check_copies(void)
             preparing[k] = (uintptr_t)preparers[b][k];
             feeding[k] = (uintptr_t)feeders[b][k];
         }
-        if (!spread(preparing) || !spread(feeding))
-            stop("two copies of a build begin at the same place in a cache line", "");
+        check_copies(preparing);
+        check_copies(feeding);
     }
 }
 
@@ -214,7 +197,7 @@ int main(int argc, char **argv)
     t.of_rounds = malloc((size_t)t.rounds * MORE * sizeof *t.of_rounds);
     if (!t.of_rounds)
         stop("no memory for the rounds", "");
-    check_copies();
+    check_builds();
 
     compare_feeding(t);
     compare_small_pieces(t);

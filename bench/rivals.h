@@ -10,7 +10,9 @@ feeder twin_feed;
 
 /* Knuth, Morris and Pratt's search with the strong failure links, over the same watch. It takes the code from the sheet and trusts its links, which
  * kmp_prepare made for that code; it tests neither sheet nor watch. */
-void kmp_prepare(const uint8_t *code, size_t m);
+typedef void linker(const uint8_t *code, size_t m);
+
+linker kmp_prepare;
 feeder kmp_feed;
 
 #endif

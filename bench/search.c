@@ -5,6 +5,7 @@
 #include <stdlib.h>
 #include <string.h>
 
+#include "copies.h"
 #include "figures.h"
 #include "process.h"
 #include "rivals.h"
@@ -17,6 +18,14 @@ static const double patience = 2.0; /* a finder that has used so many seconds on
 
 /* The finders, in the table's order. */
 enum { RATTLE, TWIN, KMP, MEMMEM, GREP, RG, FINDERS };
+
+/* The copies of those that are fed, and of KMP's preparing. */
+preparer COPIES_OF(rattle, entries_prepare);
+feeder COPIES_OF(rattle, entries_feed), COPIES_OF(rivals, twin_feed), COPIES_OF(rivals, kmp_feed);
+linker COPIES_OF(rivals, kmp_prepare);
+
+static feeder *const feeders[MEMMEM][COPIES] = {{COPIES_OF(rattle, entries_feed)}, {COPIES_OF(rivals, twin_feed)}, {COPIES_OF(rivals, kmp_feed)}};
+static linker *const linkers[COPIES] = {COPIES_OF(rivals, kmp_prepare)};
 
 static struct search s;
 static const char *text_file;
@@ -79,17 +88,27 @@ static double program_text(char *const *command, sink *take, void *state)
     return run_process(argv, NULL, NULL, take, state).cpu;
 }
 
-static double timed(int finder)
+static void check_feeders(void)
+{
+    for (int f = 0; f < MEMMEM; f++) {
+        uintptr_t starts[COPIES];
+
+        for (int k = 0; k < COPIES; k++)
+            starts[k] = (uintptr_t)feeders[f][k];
+        check_copies(starts);
+    }
+}
+
+/* One run of a finder; of those that are fed, of one copy. */
+static double timed(int finder, int copy)
 {
     double start = cpu_now();
 
     switch (finder) {
-    case RATTLE: feed_text(entries_feed, &s, 0); break;
-    case TWIN: feed_text(twin_feed, &s, 0); break;
-    case KMP: feed_text(kmp_feed, &s, 0); break;
     case MEMMEM: memmem_text(0); break;
     case GREP: return program_text(grep, NULL, NULL);
-    default: return program_text(rg, NULL, NULL);
+    case RG: return program_text(rg, NULL, NULL);
+    default: feed_text(feeders[finder][copy], &s, 0);
     }
     return cpu_now() - start;
 }
@@ -99,11 +118,10 @@ static struct found checked(int finder)
     struct lines l = {.in_number = 1};
 
     switch (finder) {
-    case RATTLE: return feed_text(entries_feed, &s, 1);
-    case TWIN: return feed_text(twin_feed, &s, 1);
-    case KMP: return feed_text(kmp_feed, &s, 1);
     case MEMMEM: return memmem_text(1);
-    default: program_text(finder == GREP ? grep : rg, read_lines, &l); return l.found;
+    case GREP:
+    case RG: program_text(finder == GREP ? grep : rg, read_lines, &l); return l.found;
+    default: return feed_text(feeders[finder][0], &s, 1);
     }
 }
 
@@ -135,7 +153,7 @@ static uint64_t dearest(void)
 
     for (size_t i = 0; i < s.n && i < DEAREST_IN; i++) {
         uint64_t before = f.compares;
-        f = entries_feed(s.sheet, s.sheet_length, f.state, f.taken, f.hits, f.compares, s.text + i, 1, &place, 1);
+        f = feeders[RATTLE][0](s.sheet, s.sheet_length, f.state, f.taken, f.hits, f.compares, s.text + i, 1, &place, 1);
         if (f.compares - before > most)
             most = f.compares - before;
     }
@@ -166,7 +184,7 @@ static void write_text(void)
         stop("cannot write", text_file);
 }
 
-/* The best times: in each round every finder runs once. Answers the median of the rounds' ratios of Rattle's speed to the twin's: what slows the
+/* The best times: in each round every finder runs once, those that are fed with each of their copies, in turn. Answers the median of the rounds' ratios of Rattle's speed to the twin's: what slows the
  * machine for longer than two runs slows both, and does not reach it. */
 static double measure(const int *present, int rounds, double *best)
 {
@@ -180,14 +198,17 @@ static double measure(const int *present, int rounds, double *best)
     for (int r = 0; r < rounds; r++) {
         double time[FINDERS];
 
-        for (int f = 0; f < FINDERS; f++) {
-            if (!present[f] || (f > TWIN && used[f] > patience))
-                continue;
-            time[f] = timed(f);
-            used[f] += time[f];
-            if (time[f] < best[f])
-                best[f] = time[f];
-        }
+        for (int f = 0; f < FINDERS; f++)
+            time[f] = HUGE_VAL;
+        for (int k = 0; k < COPIES; k++)
+            for (int f = 0; f < FINDERS; f++) {
+                if (!present[f] || (f >= MEMMEM && (k > 0 || used[f] > patience)))
+                    continue;
+                double one = timed(f, k);
+                used[f] += one;
+                time[f] = fmin(time[f], one);
+                best[f] = fmin(best[f], one);
+            }
         ratios[r] = time[TWIN] / time[RATTLE];
     }
     double ratio = median(ratios, rounds);
@@ -233,7 +254,7 @@ static void print_notes(int rounds)
     printf("\nMB/s (a million bytes a second) of processor time, best of %d rounds in which every finder runs once (a finder that needs over %.0f s: fewer); %.0f MB "
            "each.\n",
            rounds, patience, (double)s.n / 1e6);
-    printf("Rattle/C: Rattle's speed to the C twin's, the median of the rounds.\n");
+    printf("Rattle/C: Rattle's speed to the C twin's, the median of the rounds. Rattle, the twin and KMP are linked %d times each; the fastest copy counts.\n", COPIES);
     printf("Rattle, C twin, KMP: in memory, pieces of %d bytes, a list of %d places. Rattle and the twin verify the sheet at each call; KMP trusts its links.\n"
            "The twin takes a byte a turn; Rattle has loops for states 0, 1 and m and for forward arrows in a row, and makes the same comparisons.\n",
            PIECE, LIST);
@@ -264,14 +285,16 @@ int main(int argc, char **argv)
     if (rounds < 1)
         stop("1 round or more", "");
     setenv("LC_ALL", "C", 1);
+    check_feeders();
 
     print_head();
     for (const struct job *j = jobs; j->make; j++) {
         double best[FINDERS];
 
-        if (set_up(&s, j, entries_prepare))
+        if (set_up(&s, j, rattle_0_entries_prepare))
             write_text();
-        kmp_prepare(s.code, s.m);
+        for (int k = 0; k < COPIES; k++)
+            linkers[k](s.code, s.m);
         struct found r = agreed(present);
         if (r.compares > (2 * s.m - 1) * s.n / s.m)
             stop("over the total ceiling", j->text_name);
