@@ -137,8 +137,8 @@ fn take_turn(
     write_place(m, before, advance(sheet, m, p, piece, i), places, k)
 }
 
-// The bytes of a piece, until it ends or the list is full. From turn to turn only the state, the cost and the two counts are kept: with the whole watch the
-// compiler runs out of registers.
+// The bytes of a piece, until it ends or the list is full. From turn to turn only the state, the cost and the two counts are kept: the whole watch, carried
+// along, was slower.
 fn take_bytes(sheet: &[u8], watch: Watch, piece: &[u8], places: &mut [u32]) -> Feeding
     requires { ⌜ (begins (now sheet) ≡ true) × Ready (length (named (now sheet))) watch (length (now piece)) ⌝ }
     ensures { λ r. ⌜

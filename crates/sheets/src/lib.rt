@@ -148,8 +148,8 @@ pub fn prepare(code: &[u8], buffer: &mut [u8]) -> Answer
     Answer::Value(fill(code, buffer) as u64)
 }
 
-// Whether the first n bytes of a and b are the same; a may be shorter. It goes on behind a difference, so that many bytes are compared at a time: the loop
-// alone, for long sheets, is then many times as fast, and feeding in the worst cases about 1.1 times.
+// Whether the first n bytes of a and b are the same; a may be shorter. It goes on behind a difference, so that the
+// compiler compares many at a time: with codes of 255 bytes the test of a sheet takes about a quarter less.
 fn same_front(a: &[u8], b: &[u8], n: usize) -> bool
     requires { ⌜ n ≤ length (now b) ⌝ }
     ensures { λ r. ⌜ r ≡ same (take n (now (a .entry))) (take n (now (b .entry))) ⌝ }
