@@ -1,4 +1,4 @@
-/* compare MB ROUNDS: an earlier build of the finder and today's, on every text and every code; prints three tables. The fastest copy of a build counts. */
+/* compare MB ROUNDS: an earlier build of the finder and today's, on every text and every code; prints four tables. The fastest copy of a build counts. */
 #include <math.h>
 #include <stdint.h>
 #include <stdio.h>
@@ -11,7 +11,7 @@
 
 enum { BEFORE, AFTER, BUILDS };
 enum {
-    CALLS = 4000,     /* feedings to a timing of small pieces */
+    CALLS = 4000,     /* feedings to a timing of small pieces, ceilings to one of these */
     PREPARED = 20000, /* bytes of a code to a timing of preparing */
     MORE = 10,        /* rounds of preparing to one of feeding: they are shorter */
 };
@@ -19,8 +19,12 @@ enum {
 preparer COPIES_OF(before, entries_prepare), COPIES_OF(after, entries_prepare);
 feeder COPIES_OF(before, entries_feed), COPIES_OF(after, entries_feed);
 
+typedef int64_t ceiling(const uint8_t *code, size_t code_length); /* the shape of finder_byte_ceiling in c/finder.h */
+ceiling COPIES_OF(before_desk, finder_byte_ceiling), COPIES_OF(after_desk, finder_byte_ceiling);
+
 static preparer *const preparers[BUILDS][COPIES] = {{COPIES_OF(before, entries_prepare)}, {COPIES_OF(after, entries_prepare)}};
 static feeder *const feeders[BUILDS][COPIES] = {{COPIES_OF(before, entries_feed)}, {COPIES_OF(after, entries_feed)}};
+static ceiling *const ceilings[BUILDS][COPIES] = {{COPIES_OF(before_desk, finder_byte_ceiling)}, {COPIES_OF(after_desk, finder_byte_ceiling)}};
 
 static struct search s;
 
@@ -60,17 +64,30 @@ static double time_preparing(int build, int copy)
     return sum / (double)(SHAPES * m);
 }
 
+/* Nanoseconds for each byte ceiling of the first code. */
+static double time_ceiling(int build, int copy)
+{
+    double start = cpu_now();
+
+    for (int k = 0; k < CALLS; k++)
+        if (ceilings[build][copy](codes[0], m) < 1)
+            stop("a byte ceiling was refused", "");
+    return (cpu_now() - start) / CALLS * 1e9;
+}
+
 static void check_builds(void)
 {
     for (int b = 0; b < BUILDS; b++) {
-        uintptr_t preparing[COPIES], feeding[COPIES];
+        uintptr_t preparing[COPIES], feeding[COPIES], asking[COPIES];
 
         for (int k = 0; k < COPIES; k++) {
             preparing[k] = (uintptr_t)preparers[b][k];
             feeding[k] = (uintptr_t)feeders[b][k];
+            asking[k] = (uintptr_t)ceilings[b][k];
         }
         check_copies(preparing);
         check_copies(feeding);
+        check_copies(asking);
     }
 }
 
@@ -184,6 +201,26 @@ static void compare_preparing(struct table t)
     print_end(&t, 0.97);
 }
 
+static void compare_ceilings(struct table t)
+{
+    static const struct shape extremes[] = {{"one letter", one_letter}, {"different bytes", all_from_32}};
+    static const size_t sizes[] = {1, 5, 40, 255};
+    char length[32];
+
+    t.rounds *= MORE;
+    print_head("Byte ceiling", "Code", "m");
+    for (size_t l = 0; l < sizeof sizes / sizeof *sizes; l++)
+        for (size_t k = 0; k < sizeof extremes / sizeof *extremes; k++) {
+            m = sizes[l];
+            extremes[k].make(codes[0], m);
+            if (ceilings[BEFORE][0](codes[0], m) != ceilings[AFTER][0](codes[0], m))
+                stop("another byte ceiling than before, of the code", extremes[k].name);
+            snprintf(length, sizeof length, "%zu", m);
+            add_row(&t, extremes[k].name, length, time_ceiling);
+        }
+    print_end(&t, 0.67);
+}
+
 int main(int argc, char **argv)
 {
     struct table t = {0};
@@ -202,10 +239,11 @@ int main(int argc, char **argv)
     compare_feeding(t);
     compare_small_pieces(t);
     compare_preparing(t);
-    printf("\nNanoseconds of processor time for each byte of a text (%.0f MB, pieces of %d bytes, a list of %d places), each feeding of a small piece, or each "
-           "byte of a code, best of %d rounds (codes: %d).\n"
+    compare_ceilings(t);
+    printf("\nNanoseconds of processor time for each byte of a text (%.0f MB, pieces of %d bytes, a list of %d places), each feeding of a small piece, each byte of "
+           "a code to prepare, or each byte ceiling, best of %d rounds (codes: %d).\n"
            "before/after: the median of the rounds; over 1 it is faster now. In a round the fastest of a build's %d copies counts.\n"
-           "Sheets, places, comparisons and watches are the same before and after.\n",
+           "Sheets, places, comparisons, watches and ceilings are the same before and after.\n",
            (double)s.n / 1e6, PIECE, LIST, t.rounds, t.rounds * MORE, COPIES);
     return 0;
 }

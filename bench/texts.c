@@ -142,3 +142,9 @@ void random_256(uint8_t *text, size_t n)
 {
     random_text(text, n, 0, 256);
 }
+
+void all_from_32(uint8_t *text, size_t n)
+{
+    for (size_t i = 0; i < n; i++)
+        text[i] = (uint8_t)(32 + i % (256 - 32));
+}

@@ -77,6 +77,10 @@ Few-arrows = (w : List ℕ) → back-arrows w ≤ length w
 unfoldable pub Logarithm-right : Type 0
 Logarithm-right = (m : ℕ) → 1 ≤ m → (2 ^ log2 m ≤ m) × (m < 2 ^ suc (log2 m))
 
+-- and it is the only such number
+unfoldable pub Logarithm-unique : Type 0
+Logarithm-unique = (m k : ℕ) → 2 ^ k ≤ m → m < 2 ^ suc k → k ≡ log2 m
+
 -- no byte costs more than the byte ceiling, in any state
 unfoldable pub Byte-below : Type 0
 Byte-below = (w : List ℕ) (p c : ℕ) → p ≤ length w → stepped w p c .cost ≤ byte-ceiling w

@@ -1,2 +1,2 @@
 pub mod Refusals
-pub mod Scans
+pub mod Tally

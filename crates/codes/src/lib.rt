@@ -1,7 +1,6 @@
 // Codes (the patterns): which are accepted, and their ceilings (the most comparisons that a text can cost).
 ghost use mathlib.Core.Path.{_≡_};
-ghost use lib.ListN.{drop};
-ghost use Rattle.words.specs.Words.{member};
+ghost use Prim.Native.Nat.{_≤_};
 ghost use Rattle.automaton.specs.Ceilings.{log2, different};
 ghost use Rattle.codes.specs.Refusals.{answer-refusal, answer-value};
 ghost use Rattle.codes.specs.Codes.{length-refusal, code-refusal};
@@ -58,44 +57,28 @@ pub fn code_refusal(code: &[u8]) -> u32
     length_refusal(LONGEST as usize, code.len())
 }
 
-// The logarithm of m to base 2, rounded down, by repeated division by 2.
+// The logarithm of m to base 2, rounded down: how many binary digits follow the first 1 of m.
 fn log2(m: usize) -> u64
+    requires { ⌜ 1 ≤ m ⌝ }
     ensures { λ r. ⌜ r ≡ log2 m ⌝ }
 {
-    let mut left = m;
-    let mut k: u64 = 0;
-    while left >= 2 {
-        left = left / 2;
-        k += 1;
-    }
-    k
+    63 - (u64::leading_zeros(m as u64) as u64)
 }
 
-// Whether a byte stands in the code from a place on.
-fn occurs(code: &[u8], from: usize, byte: u8) -> bool
-    ensures { λ r. ⌜ r ≡ member byte (drop from (now (code .entry))) ⌝ }
-{
-    let mut i = from;
-    while i < code.len() {
-        if code[i] == byte {
-            return true;
-        }
-        i += 1;
-    }
-    false
-}
-
-// How many different bytes the code has: each is counted where it stands last.
+// How many different bytes the code has. From the last byte to the first, each is counted where it is seen first.
 fn different(code: &[u8]) -> u64
     ensures { λ r. ⌜ r ≡ different (now (code .entry)) ⌝ }
 {
+    let mut seen = [false; 256];
     let mut n: u64 = 0;
-    let mut i = 0;
-    while i < code.len() {
-        if !occurs(code, i + 1, code[i]) {
+    let mut i = code.len();
+    while 0 < i {
+        i -= 1;
+        let byte = code[i] as usize;
+        if !seen[byte] {
             n += 1;
         }
-        i += 1;
+        seen[byte] = true;
     }
     n
 }

@@ -8,7 +8,7 @@ use Rattle.automaton.proofs.Logarithm.{log2-bound}
 use Rattle.codes.specs.declared.Answer.the-variants.{Value}
 use Rattle.codes.specs.Codes.{code-refusal}
 use Rattle.codes.specs.Entry.{byte-answer}
-use Rattle.codes.proofs.Refusals.{answered-value, answered-refusal}
+use Rattle.codes.proofs.Refusals.{answered-value, answered-refusal, code-bounds}
 use borrow.Author.Needs.{needs}
 use Rattle.codes.proofs.byte_ceiling.Statement.{statement}
 use Rattle.codes.proofs.byte_ceiling.Tie as tie
@@ -25,7 +25,7 @@ unfolding byte-answer
 returns c = cc (answered-refusal (c .before .code-refusal .result) (byte-ceiling (c .before .before .before .args .code .now)) (c .if1 .taken))
 
 log2-requires : tie.Need-log2-requires
-log2-requires c κs = search needs
+log2-requires c κs = code-bounds _ (none c) .0
 
 add-arrows : tie.Need-add-arrows
 add-arrows c = omega (arith, c .log2 .ensures, log2-bound (length (c .before .before .before .before .args .code .now)))

@@ -1,55 +1,56 @@
--- `different` meets its contract. The loop keeps that the bytes counted and those that differ in what is left are all. Assumes nothing.
-use mathlib.Core.Path.{_≡_, sym, _∙_}
+-- `different` meets its contract. The loop keeps the table and the number of the different bytes from i on. Assumes nothing.
+use mathlib.Core.Bool.{true, false}
 use mathlib.Core.Logic.{⊎-elim}
 use Prim.Native.Nat.{_+_, _-_, _≤_}
 use native.Mathlib.Omega.{arith}
 use borrow.Author.Tests.{not-true, not-false}
 use lib.ListN.{length, drop}
-use Rattle.automaton.specs.Ceilings.{different}
-use Rattle.codes.proofs.Scans.{different-last, different-again, different-end}
+use Rattle.codes.proofs.Tally.{Tally, tally-end, tally-before, tally-all}
 use Rattle.codes.proofs.different.Statement.{statement}
 use Rattle.codes.proofs.different.Tie as tie
 
 abbrev Inv-loop : tie.InvT-loop
-Inv-loop code n₀ i₀ n i = (i ≤ length code) × (n ≤ i) × (n + different (drop i code) ≡ different code)
+Inv-loop code seen₀ n₀ i₀ seen n i = (n + i ≤ length code) × Tally (drop i code) n seen
 
 abbrev μ-loop : tie.MeasureT-loop
-μ-loop code n₀ i₀ n i = length code - i
+μ-loop code seen₀ n₀ i₀ seen n i = i
 
 loop-holds : tie.Need-loop-holds Inv-loop μ-loop
-loop-holds c = omega arith
+loop-holds c = (omega arith, tally-end (c .args .code .now))
 
-add-occurs : tie.Need-add-occurs Inv-loop μ-loop
-add-occurs c = omega arith
+sub-i : tie.Need-sub-i Inv-loop μ-loop
+sub-i c = omega arith
 
-shared-slice-read-occurs : tie.Need-shared-slice-read-occurs Inv-loop μ-loop
-shared-slice-read-occurs c = omega arith
+shared-slice-read-byte : tie.Need-shared-slice-read-byte Inv-loop μ-loop
+shared-slice-read-byte c = omega arith
 
-occurs-requires : tie.Need-occurs-requires Inv-loop μ-loop
-occurs-requires c κs = tt
+cast-byte : tie.Need-cast-byte Inv-loop μ-loop
+cast-byte c = omega (arith, c .shared-slice-known .given (c .before .before .loop .i - 1))
+
+array-read-if1 : tie.Need-array-read-if1 Inv-loop μ-loop
+array-read-if1 c = omega (arith, c .shared-slice-known .given (c .before .before .loop .i - 1))
 
 add-n : tie.Need-add-n Inv-loop μ-loop
 add-n c = omega arith
 
-add-i : tie.Need-add-i Inv-loop μ-loop
-add-i c = omega arith
+array-write-seen : tie.Need-array-write-seen Inv-loop μ-loop
+array-write-seen c = omega (arith, c .before .shared-slice-known .given (c .before .before .before .loop .i - 1))
 
 loop-less : tie.Need-loop-less Inv-loop μ-loop
 loop-less c = omega arith
 
 loop-again : tie.Need-loop-again Inv-loop μ-loop
 loop-again c =
-    let w = c .before .before .before .before .before .before .args .code .now in
-    let i = c .before .before .before .before .loop .i in
-    let here = c .before .before .before .loop-test .taken in
-    let found = sym (c .before .occurs .ensures) in
+    let l = c .before .before .before .loop in
+    let byte = c .before .shared-slice-known .given (l .i - 1) in
+    let turn = tally-before (c .before .before .before .before .args .code .now) (l .i) (l .i - 1) (l .n) _ (l .seen) in
     ⊎-elim
-    (λ v. let step = different-last w i here (found ∙ not-true _ (v .0 .taken)) in omega arith)
-    (λ v. let step = different-again w i here (found ∙ not-false _ (v .0 .left)) in omega arith)
+    (λ v. (omega arith, turn false (not-true _ (v .0 .taken)) (omega arith) (omega arith) (omega (arith, byte)) (omega arith) (l .inv .1)))
+    (λ v. (omega arith, turn true (not-false _ (v .0 .left)) (omega arith) (omega arith) (omega (arith, byte)) (omega arith) (l .inv .1)))
     (c .if1 .came)
 
 returns : tie.Need-returns Inv-loop μ-loop
-returns c = omega (arith, different-end (c .before .before .before .args .code .now) (c .before .loop .i) (c .loop-test .left))
+returns c = tally-all (c .before .before .args .code .now) (c .before .loop .i) _ _ (omega arith) (c .before .loop .inv .1)
 
 pub different-spec : {M : Type 1} → statement M
 different-spec =
@@ -58,11 +59,12 @@ different-spec =
     Inv-loop
     μ-loop
     loop-holds
-    add-occurs
-    shared-slice-read-occurs
-    occurs-requires
+    sub-i
+    shared-slice-read-byte
+    cast-byte
+    array-read-if1
     add-n
-    add-i
+    array-write-seen
     loop-less
     loop-again
     returns)

@@ -1,32 +1,17 @@
--- `log2` meets its contract. The loop keeps that the divisions made and the logarithm of what is left are the whole logarithm. Assumes nothing.
-use mathlib.Core.Path.{_≡_}
-use Prim.Native.Nat.{_+_}
+-- `log2` meets its contract: 63 less the leading zeros is the exponent of the highest power of two up to m. Assumes nothing.
 use native.Mathlib.Omega.{arith}
-use Rattle.automaton.specs.Ceilings.{log2}
-use Rattle.automaton.proofs.Logarithm.{log2-small, log2-large, log2-bound}
+use Rattle.automaton.proofs.Logarithm.{leading-zeros}
 use Rattle.codes.proofs.log2.Statement.{statement}
 use Rattle.codes.proofs.log2.Tie as tie
 
-abbrev Inv-loop : tie.InvT-loop
-Inv-loop m left₀ k₀ left k = k + log2 left ≡ log2 m
+cast-result : tie.Need-cast-result
+cast-result c = omega (arith, leading-zeros 64 (c .args .m) (c .pre) (c .fits .m .fits))
 
-abbrev μ-loop : tie.MeasureT-loop
-μ-loop m left₀ k₀ left k = left
+sub-result : tie.Need-sub-result
+sub-result c = omega (arith, leading-zeros 64 (c .args .m) (c .pre) (c .fits .m .fits))
 
-loop-holds : tie.Need-loop-holds Inv-loop μ-loop
-loop-holds c = omega arith
-
-add-k : tie.Need-add-k Inv-loop μ-loop
-add-k c = omega (arith, log2-large (c .before .loop .left) (c .loop-test .taken), log2-bound (c .before .before .args .m))
-
-loop-less : tie.Need-loop-less Inv-loop μ-loop
-loop-less c = omega arith
-
-loop-again : tie.Need-loop-again Inv-loop μ-loop
-loop-again c = omega (arith, log2-large (c .before .loop .left) (c .loop-test .taken))
-
-returns : tie.Need-returns Inv-loop μ-loop
-returns c = omega (arith, log2-small (c .before .loop .left) (c .loop-test .left))
+returns : tie.Need-returns
+returns c = omega (arith, leading-zeros 64 (c .args .m) (c .pre) (c .fits .m .fits))
 
 pub log2-spec : {M : Type 1} → statement M
-log2-spec = tie.close (tie.spec Inv-loop μ-loop loop-holds add-k loop-less loop-again returns)
+log2-spec = tie.close (tie.spec cast-result sub-result returns)
