@@ -11,9 +11,9 @@
 
 enum { BEFORE, AFTER, BUILDS };
 enum {
-    CALLS = 4000,     /* feedings to a timing of small pieces, ceilings to one of these */
+    CALLS = 4000,     /* calls to a timing of small pieces, or of the byte ceiling */
     PREPARED = 20000, /* bytes of a code to a timing of preparing */
-    MORE = 10,        /* rounds of preparing to one of feeding: they are shorter */
+    MORE = 10,        /* rounds of preparing and of the byte ceiling to one of feeding: they are shorter */
 };
 
 preparer COPIES_OF(before, entries_prepare), COPIES_OF(after, entries_prepare);
@@ -203,7 +203,7 @@ static void compare_preparing(struct table t)
 
 static void compare_ceilings(struct table t)
 {
-    static const struct shape extremes[] = {{"one letter", one_letter}, {"different bytes", all_from_32}};
+    static const struct shape extremes[] = {{"one letter", one_letter}, {"bytes from 32 on", all_from_32}};
     static const size_t sizes[] = {1, 5, 40, 255};
     char length[32];
 

@@ -1,4 +1,4 @@
--- log2 m is the logarithm rounded down: by halving, and by the powers of two around m. Assumes nothing.
+-- log2 m is the logarithm rounded down: by halving, by the powers of two around m, and by the leading zeros of m. Assumes nothing.
 use mathlib.Core.Path.{_≡_, refl, sym, ap, _∙_, subst}
 use Prim.Native.Nat.{ℕ, zero, suc, _+_, _*_, _/_, _^_, _≤_, _<_}
 use native.Mathlib.Omega.{arith}
@@ -72,7 +72,7 @@ logarithm-unique m k low high =
     let some : 1 ≤ m = omega (arith, pow-pos k) in
     omega (arith, exponent-less m k (suc (log2 m)) low (log2-high m), exponent-less m (log2 m) (suc k) (log2-low m some) high)
 
--- the zeros before the first 1 of m, that 1 and the digits behind it are all digits of a width that m fits in
+-- in a width that m fits in, the zeros before the first 1 of m, that 1 and the log2 m digits behind it make up the width
 pub leading-zeros : (width m : ℕ) → 1 ≤ m → m < 2 ^ width → leadingZeros width m + suc (log2 m) ≡ width
 unfolding Logarithm-unique
 leading-zeros width m some fits =

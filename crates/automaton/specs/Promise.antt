@@ -77,7 +77,7 @@ Few-arrows = (w : List ℕ) → back-arrows w ≤ length w
 unfoldable pub Logarithm-right : Type 0
 Logarithm-right = (m : ℕ) → 1 ≤ m → (2 ^ log2 m ≤ m) × (m < 2 ^ suc (log2 m))
 
--- and it is the only such number
+-- and no other number k has 2 ^ k ≤ m < 2 ^ suc k
 unfoldable pub Logarithm-unique : Type 0
 Logarithm-unique = (m k : ℕ) → 2 ^ k ≤ m → m < 2 ^ suc k → k ≡ log2 m
 

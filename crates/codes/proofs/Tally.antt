@@ -38,15 +38,15 @@ tally-more x xs n seen fits k = record {
       (λ e. getD-set-other seen x v true false e ∙ k .told v l ∙ sym (member-other v x xs (λ s. e (sym s))));
 }
 
--- THE TURNS of the count: `seen` and n are of the bytes from i on
-pub tally-end : (xs : List ℕ) → Tally (drop (length xs) xs) 0 (replicate 256 false)
-tally-end xs = rw (drop-of-length-le xs {i = length xs} (omega arith)) tally-none
+-- THE LOOP over a code: n and `seen` belong to the bytes from i on
+pub tally-start : (xs : List ℕ) → Tally (drop (length xs) xs) 0 (replicate 256 false)
+tally-start xs = rw (drop-of-length-le xs {i = length xs} (omega arith)) tally-none
 
-pub tally-before : (xs : List ℕ) (i j n m : ℕ) (seen : List Bool) (t : Bool) → getD seen (getD xs j 0) false ≡ t → m ≡ n + cond t 0 1 →
-    i ≡ suc j → getD xs j 0 < 256 → i ≤ length xs → Tally (drop i xs) n seen → Tally (drop j xs) m (set seen (getD xs j 0) true)
-tally-before xs i j n m seen t old more e fits inside k =
+pub tally-turn : (xs : List ℕ) (i j n n′ : ℕ) (seen : List Bool) (t : Bool) → getD seen (getD xs j 0) false ≡ t → n′ ≡ n + cond t 0 1 →
+    i ≡ suc j → getD xs j 0 < 256 → i ≤ length xs → Tally (drop i xs) n seen → Tally (drop j xs) n′ (set seen (getD xs j 0) true)
+tally-turn xs i j n n′ seen t old more e fits inside k =
     rw (more, sym old, drop-cons xs j 0 (omega arith))
     (tally-more (getD xs j 0) (drop (suc j) xs) n seen fits (subst (λ (l : ℕ). Tally (drop l xs) n seen) e k))
 
-pub tally-all : (xs : List ℕ) (i n : ℕ) (seen : List Bool) → i ≡ 0 → Tally (drop i xs) n seen → n ≡ different xs
-tally-all xs i n seen e k = subst (λ (l : ℕ). n ≡ different (drop l xs)) e (k .count)
+pub tally-end : (xs : List ℕ) (i n : ℕ) (seen : List Bool) → i ≡ 0 → Tally (drop i xs) n seen → n ≡ different xs
+tally-end xs i n seen e k = subst (λ (l : ℕ). n ≡ different (drop l xs)) e (k .count)

@@ -65,7 +65,7 @@ fn log2(m: usize) -> u64
     63 - (u64::leading_zeros(m as u64) as u64)
 }
 
-// How many different bytes the code has. From the last byte to the first, each is counted where it is seen first.
+// How many different bytes the code has. From the last byte to the first, as the definition does, it counts each that it has not seen yet.
 fn different(code: &[u8]) -> u64
     ensures { λ r. ⌜ r ≡ different (now (code .entry)) ⌝ }
 {

@@ -5,7 +5,7 @@ use Prim.Native.Nat.{_+_, _-_, _≤_}
 use native.Mathlib.Omega.{arith}
 use borrow.Author.Tests.{not-true, not-false}
 use lib.ListN.{length, drop}
-use Rattle.codes.proofs.Tally.{Tally, tally-end, tally-before, tally-all}
+use Rattle.codes.proofs.Tally.{Tally, tally-start, tally-turn, tally-end}
 use Rattle.codes.proofs.different.Statement.{statement}
 use Rattle.codes.proofs.different.Tie as tie
 
@@ -16,7 +16,7 @@ abbrev μ-loop : tie.MeasureT-loop
 μ-loop code seen₀ n₀ i₀ seen n i = i
 
 loop-holds : tie.Need-loop-holds Inv-loop μ-loop
-loop-holds c = (omega arith, tally-end (c .args .code .now))
+loop-holds c = (omega arith, tally-start (c .args .code .now))
 
 sub-i : tie.Need-sub-i Inv-loop μ-loop
 sub-i c = omega arith
@@ -43,14 +43,14 @@ loop-again : tie.Need-loop-again Inv-loop μ-loop
 loop-again c =
     let l = c .before .before .before .loop in
     let byte = c .before .shared-slice-known .given (l .i - 1) in
-    let turn = tally-before (c .before .before .before .before .args .code .now) (l .i) (l .i - 1) (l .n) _ (l .seen) in
+    let turn = tally-turn (c .before .before .before .before .args .code .now) (l .i) (l .i - 1) (l .n) _ (l .seen) in
     ⊎-elim
     (λ v. (omega arith, turn false (not-true _ (v .0 .taken)) (omega arith) (omega arith) (omega (arith, byte)) (omega arith) (l .inv .1)))
     (λ v. (omega arith, turn true (not-false _ (v .0 .left)) (omega arith) (omega arith) (omega (arith, byte)) (omega arith) (l .inv .1)))
     (c .if1 .came)
 
 returns : tie.Need-returns Inv-loop μ-loop
-returns c = tally-all (c .before .before .args .code .now) (c .before .loop .i) _ _ (omega arith) (c .before .loop .inv .1)
+returns c = tally-end (c .before .before .args .code .now) (c .before .loop .i) _ _ (omega arith) (c .before .loop .inv .1)
 
 pub different-spec : {M : Type 1} → statement M
 different-spec =
