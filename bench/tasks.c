@@ -122,7 +122,7 @@ struct found feed_text(feeder *feed, const struct search *s, int checking)
 
 const struct shape shapes[SHAPES] = {
     {"a^m", one_letter}, {"ab^(m-1)", ab_text}, {"Fibonacci", fibonacci_word},
-    {"ruler", ruler_word}, {"random, 2 letters", random_2}, {"random bytes", random_256},
+    {"ruler", ruler_word}, {"random, 2 letters", random_2}, {"random from 32 on", random_from_32},
 };
 
 const size_t lengths[LENGTHS] = {1, 2, 4, 8, 16, 32, 64, 128, 255};

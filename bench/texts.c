@@ -143,6 +143,11 @@ void random_256(uint8_t *text, size_t n)
     random_text(text, n, 0, 256);
 }
 
+void random_from_32(uint8_t *text, size_t n)
+{
+    random_text(text, n, 32, 256 - 32);
+}
+
 void all_from_32(uint8_t *text, size_t n)
 {
     for (size_t i = 0; i < n; i++)

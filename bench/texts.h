@@ -17,6 +17,7 @@ text_maker ruler_unknown;  /* the same with ! for h */
 text_maker random_2;       /* random letters a and b */
 text_maker random_4;       /* random letters a to d */
 text_maker random_256;     /* random bytes */
+text_maker random_from_32; /* the same, none a control byte, as in a code */
 text_maker all_from_32;    /* the bytes 32, 33, .., 255, and again: 224 different ones, none a control byte */
 
 #endif

@@ -3,6 +3,16 @@
 
 #include "rivals.h"
 
+/* Whether a code has a control byte. It goes on behind the first, so that the compiler tests many at a time. */
+static int has_control(const uint8_t *code, size_t m)
+{
+    int found = 0;
+
+    for (size_t i = 0; i < m; i++)
+        found |= code[i] < 32;
+    return found;
+}
+
 /* Fills the sheet of a code of 1 to 255 bytes: its length byte, the code, the counts of the states 0 to m, the targets. Returns its length.
  *
  * The targets of state r are the target of its longest border and that border's own targets, without the one that has r's forward label; that one is
@@ -44,17 +54,19 @@ struct prepared twin_prepare(const uint8_t *code, size_t m, uint8_t *buffer, siz
         return (struct prepared){.refusal = 1};
     if (m > LONGEST_CODE)
         return (struct prepared){.refusal = 2};
+    if (has_control(code, m))
+        return (struct prepared){.refusal = 13};
     if (room < 3 * m + 2)
         return (struct prepared){.refusal = 3};
     return (struct prepared){.length = fill(code, m, buffer)};
 }
 
-/* Whether a buffer begins with the sheet of the code that it names: it is compared with one prepared afresh. */
+/* Whether a buffer names an accepted code and begins with its sheet: it is compared with one prepared afresh. */
 static int is_sheet(const uint8_t *buffer, size_t length)
 {
     uint8_t area[SHEET_ROOM] = {0};
 
-    if (length == 0 || buffer[0] == 0 || length < 1 + (size_t)buffer[0])
+    if (length == 0 || buffer[0] == 0 || length < 1 + (size_t)buffer[0] || has_control(buffer + 1, buffer[0]))
         return 0;
     size_t n = fill(buffer + 1, buffer[0], area);
     return length >= n && memcmp(buffer, area, n) == 0;

@@ -14,7 +14,7 @@
 static int usage(void)
 {
     fprintf(stderr, "usage: desk CODE [BYTES]\n"
-                    "CODE has 1 to %d bytes. BYTES is the length of a text, at most %" PRIu32 ".\n",
+                    "CODE has 1 to %d bytes, none a control byte. BYTES is the length of a text, at most %" PRIu32 ".\n",
             FINDER_LONGEST_CODE, UINT32_MAX);
     return 2;
 }
@@ -28,6 +28,8 @@ static const char *in_words(int64_t refusal)
         return "the code has more than 255 bytes";
     case FINDER_SMALL_BUFFER:
         return "the buffer is too small for the code's sheet";
+    case FINDER_CONTROL_BYTE:
+        return "the code has a control byte, such as a line end";
     default:
         return "unknown refusal";
     }

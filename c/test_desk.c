@@ -10,9 +10,21 @@
 
 /* ---- The plain implementation */
 
-static int64_t plain_refusal(size_t m)
+static int64_t length_refusal(size_t m)
 {
     return m == 0 ? 1 : m > 255 ? 2 : 0;
+}
+
+static int64_t code_refusal(const uint8_t *code, size_t m)
+{
+    size_t i;
+
+    if (length_refusal(m) != 0)
+        return length_refusal(m);
+    for (i = 0; i < m; i++)
+        if (code[i] < 32)
+            return 13;
+    return 0;
 }
 
 /* Whether the first p bytes have a border of length b, for b below p. */
@@ -61,8 +73,8 @@ static size_t plain_sheet(const uint8_t *code, size_t m, uint8_t *sheet)
 
 static int64_t plain_prepare(const uint8_t *code, size_t m, uint8_t *buffer, size_t room)
 {
-    if (plain_refusal(m) != 0)
-        return -plain_refusal(m);
+    if (code_refusal(code, m) != 0)
+        return -code_refusal(code, m);
     if (room < 3 * m + 2)
         return -3;
     return (int64_t)plain_sheet(code, m, buffer);
@@ -75,8 +87,8 @@ static int64_t plain_byte_ceiling(const uint8_t *code, size_t m)
     int64_t log = 0, different = 0;
     size_t i;
 
-    if (plain_refusal(m) != 0)
-        return -plain_refusal(m);
+    if (code_refusal(code, m) != 0)
+        return -code_refusal(code, m);
     for (i = 0; i < m; i++)
         occurs[code[i]] = 1;
     for (i = 0; i < 256; i++)
@@ -88,8 +100,8 @@ static int64_t plain_byte_ceiling(const uint8_t *code, size_t m)
 
 static int64_t plain_total_ceiling(uint32_t m, uint32_t n)
 {
-    if (plain_refusal(m) != 0)
-        return -plain_refusal(m);
+    if (length_refusal(m) != 0)
+        return -length_refusal(m);
     return (int64_t)((2 * (uint64_t)m - 1) * n / m);
 }
 
@@ -110,12 +122,13 @@ static size_t random_below(size_t n)
     return (size_t)(next_random() % n);
 }
 
-static void fill_random(uint8_t *bytes, size_t n, size_t values)
+/* Random bytes: so many different ones, from the first on. */
+static void fill_random(uint8_t *bytes, size_t n, size_t first, size_t values)
 {
     size_t i;
 
     for (i = 0; i < n; i++)
-        bytes[i] = (uint8_t)random_below(values);
+        bytes[i] = (uint8_t)(first + random_below(values));
 }
 
 /* ---- Comparing one call */
@@ -130,15 +143,15 @@ static uint8_t buffer_lent[GUARD + LARGE_BUFFER + GUARD], buffer_after[sizeof bu
 
 static void lend_code(const uint8_t *code, size_t m)
 {
-    fill_random(code_lent, GUARD, 256);
+    fill_random(code_lent, GUARD, 0, 256);
     memcpy(code_lent + GUARD, code, m);
-    fill_random(code_lent + GUARD + m, GUARD, 256);
+    fill_random(code_lent + GUARD + m, GUARD, 0, 256);
     memcpy(code_after, code_lent, GUARD + m + GUARD);
 }
 
 static void lend_buffer(size_t room)
 {
-    fill_random(buffer_lent, GUARD + room + GUARD, 256);
+    fill_random(buffer_lent, GUARD + room + GUARD, 0, 256);
     memcpy(buffer_after, buffer_lent, GUARD + room + GUARD);
 }
 
@@ -225,12 +238,15 @@ static void check_samples(void)
     sample_prepare(many, 256, 0, -2, "");
     sample_prepare(bytes("aab"), 3, 10, -3, "");
     sample_prepare(many, 255, 766, -3, "");
+    sample_prepare(bytes("R12\r"), 4, 767, -13, "");
+    sample_prepare(bytes("R12\n"), 4, 0, -13, "");
 
     compare_byte_ceiling(bytes("aaaa"), 4, 1);
     compare_byte_ceiling(bytes("abac"), 4, 3);
     compare_byte_ceiling(bytes(""), 0, -1);
     compare_byte_ceiling(many, 255, 1);
     compare_byte_ceiling(many, 256, -2);
+    compare_byte_ceiling(bytes("R12\n"), 4, -13);
 
     compare_total_ceiling(2, 4, 6);
     compare_total_ceiling(4, 4, 7);
@@ -267,7 +283,7 @@ static void check_code(const uint8_t *code, size_t m)
 /* Every code of up to so many bytes over the first few of these values. */
 static void check_all_short(size_t values, size_t longest)
 {
-    static const uint8_t value[] = {0x61, 0x00, 0xff, 0x80};
+    static const uint8_t value[] = {0x61, 0x20, 0xff, 0x80};
     uint8_t digit[16] = {0}, code[16];
     size_t m, i;
 
@@ -325,7 +341,7 @@ static void check_regular(void)
         code[0] = 'a';
         check_code(code, m);
         for (i = 0; i < m; i++)
-            code[i] = (uint8_t)i; /* all different */
+            code[i] = (uint8_t)(32 + i % 224); /* all different, as long as there are so many */
         check_code(code, m);
         for (i = 0; i < m; i++)
             code[i] = (uint8_t)('a' + twos(i + 1)); /* the ruler: abacabad.. */
@@ -341,7 +357,7 @@ static void check_regular(void)
         check_code(code, m);
 }
 
-/* Random codes over few or many values, and random words repeated, with one byte changed or none. */
+/* Random codes over few or many values, and random words repeated, with one byte changed or none, and with one below 32. */
 static void check_random(int count)
 {
     uint8_t code[255];
@@ -349,7 +365,7 @@ static void check_random(int count)
 
     while (count-- > 0) {
         m = 1 + random_below(255);
-        fill_random(code, m, 1 + random_below(count % 2 ? 4 : 256));
+        fill_random(code, m, 32, 1 + random_below(count % 2 ? 4 : 224));
         check_code(code, m);
         period = 1 + random_below(m);
         for (i = period; i < m; i++)
@@ -357,17 +373,35 @@ static void check_random(int count)
         check_code(code, m);
         code[random_below(m)] ^= 1;
         check_code(code, m);
+        code[random_below(m)] = (uint8_t)random_below(32);
+        check_code(code, m);
     }
 }
 
-/* Codes that are too long, also by lengths whose last bytes are those of a good one. */
+/* Every byte at every index of short codes: those below 32 are refused, and no others. */
+static void check_every_byte(void)
+{
+    uint8_t code[6];
+    size_t m, i;
+    unsigned byte;
+
+    for (m = 1; m <= sizeof code; m++)
+        for (i = 0; i < m; i++)
+            for (byte = 0; byte < 256; byte++) {
+                memcpy(code, "abaaba", sizeof code);
+                code[i] = (uint8_t)byte;
+                check_code(code, m);
+            }
+}
+
+/* Codes that are too long, also by lengths whose last bytes are those of a good one. They have bytes below 32 too, and are refused as too long. */
 static void check_too_long(void)
 {
     static const size_t length[] = {256, 257, 258, 300, 511, 512, 1000, 65535, 65536, 65537, 65541, LONG_CODE};
     static uint8_t code[LONG_CODE];
     size_t i;
 
-    fill_random(code, LONG_CODE, 256);
+    fill_random(code, LONG_CODE, 0, 256);
     check_code(code, 0);
     for (i = 0; i < sizeof length / sizeof *length; i++)
         check_code(code, length[i]);
@@ -404,6 +438,7 @@ int main(void)
     check_all_short(4, 6);
     check_regular();
     check_random(1000);
+    check_every_byte();
     check_too_long();
     check_total_ceilings();
     printf("test_desk: %lu calls compared, no difference\n", calls_compared);

@@ -118,16 +118,17 @@ static unsigned words(unsigned count, size_t longest)
     return all;
 }
 
-static void try_short(const char *name, const char *letters, unsigned count, size_t longest_code, size_t longest_text)
+/* Codes of the first few letters, and texts of some more. */
+static void try_short(const char *name, const char *letters, unsigned in_codes, size_t longest_code, unsigned in_texts, size_t longest_text)
 {
     unsigned i, k;
 
     begin_group(name);
-    for (i = 1; i < words(count, longest_code); i++) {
-        m = spell(i, letters, count, code);
+    for (i = 1; i < words(in_codes, longest_code); i++) {
+        m = spell(i, letters, in_codes, code);
         use_code();
-        for (k = 0; k < words(count, longest_text); k++) {
-            n = spell(k, letters, count, text);
+        for (k = 0; k < words(in_texts, longest_text); k++) {
+            n = spell(k, letters, in_texts, text);
             run_every_cutting();
         }
     }
@@ -168,6 +169,12 @@ static void run_some_sizes(void)
     run_sizes(100, 37, 1, 1);
 }
 
+/* A byte of a code: for one below 32 the one 32 above it. */
+static uint8_t from_32(size_t byte)
+{
+    return (uint8_t)(byte % 256 < 32 ? byte + 32 : byte);
+}
+
 /* A byte as a code, twice, before and behind its neighbour and the most distant one. */
 static void try_every_byte(void)
 {
@@ -175,12 +182,12 @@ static void try_every_byte(void)
     unsigned byte;
     size_t k, i;
 
-    begin_group("codes of each byte in texts of all bytes");
-    for (byte = 0; byte < 256; byte++)
+    begin_group("codes of each byte from 32 on in texts of all bytes");
+    for (byte = 32; byte < 256; byte++)
         for (k = 0; k < sizeof shapes / sizeof *shapes; k++) {
             m = shapes[k][0];
             for (i = 0; i < m; i++)
-                code[i] = (uint8_t)(byte + shapes[k][i + 1]);
+                code[i] = from_32(byte + shapes[k][i + 1]);
             use_code();
             put_every_byte();
             run_some_sizes();
@@ -206,7 +213,7 @@ static uint8_t random_letter(size_t letters)
     return (uint8_t)(random_below(letters) * 255 / (letters > 4 ? letters - 1 : 3));
 }
 
-/* The long code of a number: 3 to 255 bytes of 1 to 4 letters, or of all bytes, with a period of 1 to 19; in every other code the last byte is 255.
+/* The long code of a number: 3 to 255 bytes of 1 to 4 letters, or of all from 32 on, with a period of 1 to 19; in every other code the last byte is 255.
    Answers how many letters. */
 static size_t use_long_code(unsigned number)
 {
@@ -217,14 +224,14 @@ static size_t use_long_code(unsigned number)
     random_state = 88172645463325252u + number;
     m = 255 - number % 253;
     for (i = 0; i < m; i++)
-        code[i] = i < period ? random_letter(letters) : code[i - period];
+        code[i] = i < period ? from_32(random_letter(letters)) : code[i - period];
     if (number % 2 == 1)
         code[m - 1] = 255;
     use_code();
     return letters;
 }
 
-/* The code again and again, with a random letter or a new start about once in a code's length. */
+/* The code again and again, with a random letter or a new start about once in a code's length; every other letter may be a control byte. */
 static void put_long_text(size_t letters)
 {
     size_t i, j = 0;
@@ -232,7 +239,7 @@ static void put_long_text(size_t letters)
     n = LONG_TEXT;
     for (i = 0; i < n; i++) {
         size_t chance = random_below(2 * m);
-        text[i] = chance == 0 ? random_letter(letters) : code[j];
+        text[i] = chance > 0 ? code[j] : i % 2 == 0 ? random_letter(letters) : from_32(random_letter(letters));
         j = chance == 1 || j + 1 == m ? 0 : j + 1;
     }
 }
@@ -277,11 +284,13 @@ static void try_refused_codes(void)
     size_t k;
 
     begin_group("no code, too long a code, and buffers of every size");
-    memset(code, 'a', sizeof code);
     for (k = 0; k < sizeof rooms / sizeof *rooms; k++) {
         m = 0;
         compare_prepare(rooms[k]);
         m = LONGEST_CODE + 1;
+        memset(code, 31, sizeof code);
+        compare_prepare(rooms[k]);
+        memset(code, 'a', sizeof code);
         compare_prepare(rooms[k]);
     }
     for (m = 1; m <= LONGEST_CODE; m += 127)
@@ -294,8 +303,8 @@ static void try_refused_codes(void)
 
 static uint64_t taken_as_sheets;
 
-/* Feeds the code with a buffer as its sheet. */
-static void try_buffer(const uint8_t *buffer, size_t length)
+/* Feeds the code with a buffer as its sheet. Answers the refusal. */
+static uint32_t try_buffer(const uint8_t *buffer, size_t length)
 {
     struct call c;
     uint32_t refusal;
@@ -310,6 +319,29 @@ static void try_buffer(const uint8_t *buffer, size_t length)
     if (refusal != 0 && refusal != 4)
         differ("a wrong sheet is refused with another number");
     taken_as_sheets += refusal == 0;
+    return refusal;
+}
+
+/* Every byte at every index of short codes: with one below 32 the code is refused with 13 and its sheet with 4; all others are taken. */
+static void try_control_bytes(void)
+{
+    uint8_t buffer[SHEET_ROOM];
+    unsigned byte;
+    size_t length, i;
+
+    begin_group("every byte at every index of codes of 1 to 6 bytes, and their sheets");
+    for (length = 1; length <= 6; length++)
+        for (i = 0; i < length; i++)
+            for (byte = 0; byte < 256; byte++) {
+                m = length;
+                memcpy(code, "abaaba", m);
+                code[i] = (uint8_t)byte;
+                compare_prepare(0);
+                use_code();
+                if ((try_buffer(buffer, plain_sheet(code, m, buffer)) == 4) != (byte < 32))
+                    differ("a sheet is refused for another reason than a byte below 32");
+            }
+    end_group();
 }
 
 /* The sheet with each of its bytes as it would be with some bits changed, and each start of it. */
@@ -431,11 +463,13 @@ int main(void)
         return 1;
     }
     try_the_documents();
-    try_short("all codes of 1 to 6 bytes and texts of 0 to 8 of two letters, cut in every way", "ab", 2, 6, 8);
-    try_short("all codes of 1 to 4 bytes and texts of 0 to 6 of three letters, cut in every way", "\0\200\377", 3, 4, 6);
+    try_short("all codes of 1 to 6 bytes and texts of 0 to 8 of two letters, cut in every way", "ab", 2, 6, 2, 8);
+    try_short("all codes of 1 to 4 bytes and texts of 0 to 6 of three letters, cut in every way", " \200\377", 3, 4, 3, 6);
+    try_short("all codes of 1 to 4 bytes of two letters and texts of 0 to 6 of these and NUL, cut in every way", "\200\377\0", 2, 4, 3, 6);
     try_every_byte();
     try_long();
     try_refused_codes();
+    try_control_bytes();
     try_wrong_sheets();
     try_watches();
     return 0;

@@ -65,8 +65,7 @@ static size_t follow(const uint8_t *code, size_t m, size_t p, uint8_t byte, uint
 
 /* ---- Preparing */
 
-/* The sheet of an accepted code; its length. */
-static size_t put_sheet(const uint8_t *code, size_t m, uint8_t *sheet)
+size_t plain_sheet(const uint8_t *code, size_t m, uint8_t *sheet)
 {
     size_t p, b, end = 2 * m + 2;
 
@@ -81,29 +80,41 @@ static size_t put_sheet(const uint8_t *code, size_t m, uint8_t *sheet)
     return end;
 }
 
+/* Whether a code has a byte below 32. */
+static int has_control(const uint8_t *code, size_t m)
+{
+    size_t i;
+
+    for (i = 0; i < m; i++)
+        if (code[i] < 32)
+            return 1;
+    return 0;
+}
+
 struct prepared plain_prepare(const uint8_t *code, size_t m, uint8_t *buffer, size_t room)
 {
     struct prepared answer = {0, 0};
 
-    answer.refusal = m == 0 ? 1 : m > 255 ? 2 : room < 3 * m + 2 ? 3 : 0;
+    answer.refusal = m == 0 ? 1 : m > 255 ? 2 : has_control(code, m) ? 13 : room < 3 * m + 2 ? 3 : 0;
     if (answer.refusal == 0)
-        answer.length = put_sheet(code, m, buffer);
+        answer.length = plain_sheet(code, m, buffer);
     return answer;
 }
 
 /* ---- Feeding */
 
-/* Whether a buffer begins with the sheet of the code that it names. The last sheet is kept: most calls name the same code as the one before. */
+/* Whether a buffer begins with the sheet of the code that it names, and that has no control byte. The last sheet is kept: most calls name the same
+   code as the one before. */
 static int begins_with_sheet(const uint8_t *buffer, size_t length)
 {
     static uint8_t sheet[SHEET_ROOM];
     static size_t end;
     size_t m = length == 0 ? 0 : buffer[0];
 
-    if (m == 0 || length < 1 + m)
+    if (m == 0 || length < 1 + m || has_control(buffer + 1, m))
         return 0;
     if (memcmp(sheet, buffer, 1 + m) != 0)
-        end = put_sheet(buffer + 1, m, sheet);
+        end = plain_sheet(buffer + 1, m, sheet);
     return end <= length && memcmp(buffer, sheet, end) == 0;
 }
 

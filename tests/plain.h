@@ -10,6 +10,9 @@ enum { LONGEST_TEXT_HERE = 1024 };
 preparer plain_prepare;
 feeder plain_feed;
 
+/* The sheet of any code of 1 to 255 bytes, accepted or not; its length. */
+size_t plain_sheet(const uint8_t *code, size_t m, uint8_t *sheet);
+
 /* A naive search for a code in a text, and what the document's machine does with that text: the same however the text is cut, so it is worked out
    once. Index n stands for the first n bytes of the text. */
 struct machine {

@@ -19,6 +19,17 @@ static int refuse(int number)
     return 0;
 }
 
+/* Whether the code has a byte below 32. */
+static int has_control(void)
+{
+    size_t i;
+
+    for (i = 0; i < m; i++)
+        if (code[i] < 32)
+            return 1;
+    return 0;
+}
+
 /* Finds the code and the text; 0, or the refusal. */
 static int read_first_line(void)
 {
@@ -34,7 +45,7 @@ static int read_first_line(void)
     m = (size_t)(bracket - code);
     text = feed + 1;
     n = input_length - (size_t)(text - input);
-    return m == 0 ? 1 : m > 255 ? 2 : 0;
+    return m == 0 ? 1 : m > 255 ? 2 : has_control() ? 13 : 0;
 }
 
 /* Whether the first `end` bytes of the text end with the first p bytes of the code. */

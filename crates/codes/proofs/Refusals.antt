@@ -1,20 +1,21 @@
 -- Laws of refusals: what a list without one tells, what an answer is, and what a code without a refusal is. A list of refusals computes once its tests are
 -- known: one rewriting for each test decides it. Assumes nothing.
 use mathlib.Core.Path.{_≡_, refl, sym, ap, _∙_}
-use mathlib.Core.Bool.{Bool, true, false}
+use mathlib.Core.Bool.{Bool, true, false, not}
 use mathlib.Core.List.{List, [], _∷_}
 use mathlib.Core.Logic.{_≢_}
-use Prim.Native.Nat.{ℕ, zero, suc, _≤_, _<_, min}
+use Prim.Native.Nat.{ℕ, zero, suc, _≤_, _<_}
 use native.Mathlib.Omega.{arith}
 use lib.Dec.{ltb, eqb, eqb·suc-zero}
 use lib.ListN.{length}
 use borrow.Author.Tests.{eq-eqb, ne-eqb, lt-ltb, le-ltb, eqb-true, eqb-false, ltb-false}
 use Rattle.words.specs.Words.{Every}
-use Rattle.words.proofs.Tests.{by-le}
+use Rattle.words.proofs.Tests.{by-test}
 use Rattle.codes.specs.declared.Answer.the-variants.{Value, Refused}
 use Rattle.codes.specs.Refusals.{refused-if, first-refusal, answered}
-use Rattle.codes.specs.Codes.{length-refusal, longest-code, code-refusal, accepted}
-use Rattle.codes.specs.Promise.{Answers-told}
+use Rattle.codes.specs.Codes.{length-refusal, longest-code, has-control, code-refusal, accepted}
+use Rattle.codes.specs.Promise.{Answers-told, Codes-accepted}
+use Rattle.codes.proofs.Controls.{clean-bytes, bytes-clean}
 
 -- NO REFUSAL: none of the list, and no condition holds
 pub none-of : (ns : List ℕ) → first-refusal ns ≡ 0 → Every (λ n. n ≡ 0) ns
@@ -71,17 +72,34 @@ module _ (l m : ℕ) where
       let some : m ≢ 0 = eqb-false m 0 (not-refused 0 (eqb m 0) (n .0)) in
       (omega arith, ltb-false l m (not-refused 1 (ltb l m) (n .1 .0)))
 
--- so the first l + 1 bytes, or more, decide it
-pub length-cut : (l m n : ℕ) → l < n → length-refusal l (min m n) ≡ length-refusal l m
-length-cut l m n h =
-    by-le m n
-    (λ (le : m ≤ n). let e : min m n ≡ m = omega arith in ap (length-refusal l) e)
-    (λ (le : n < m). length-over l (min m n) (λ z. omega arith) (omega arith) ∙ sym (length-over l m (λ z. omega arith) (omega arith)))
+-- A CODE is refused by its length, then by its bytes
+module _ (w : List ℕ) where
+  pub code-by-length : length-refusal longest-code (length w) ≢ 0 → code-refusal w ≡ length-refusal longest-code (length w)
+  unfolding code-refusal
+  code-by-length h = first-here _ _ h
 
--- A CODE without a refusal
-pub code-bounds : (w : List ℕ) → code-refusal w ≡ 0 → (1 ≤ length w) × (length w ≤ longest-code)
-unfolding code-refusal
-code-bounds w e = length-bounds longest-code (length w) e
+  pub code-control : length-refusal longest-code (length w) ≡ 0 → has-control w ≡ true → code-refusal w ≡ 13
+  unfolding code-refusal first-refusal refused-if
+  code-control none e = rw (none, e)
+
+  pub code-good : length-refusal longest-code (length w) ≡ 0 → has-control w ≡ false → code-refusal w ≡ 0
+  unfolding code-refusal first-refusal refused-if
+  code-good none e = rw (none, e)
+
+  -- one that is too long is refused as such, whatever its bytes
+  pub code-over : longest-code < length w → code-refusal w ≡ 2
+  code-over h =
+      let e = length-over longest-code (length w) (λ z. omega arith) h in
+      code-by-length (λ z. absurd (omega (arith, e))) ∙ e
+
+  -- WITHOUT A REFUSAL
+  pub code-bounds : code-refusal w ≡ 0 → (1 ≤ length w) × (length w ≤ longest-code)
+  unfolding code-refusal
+  code-bounds e = length-bounds longest-code (length w) (none-of _ e .0)
+
+  pub code-clean : code-refusal w ≡ 0 → has-control w ≡ false
+  unfolding code-refusal
+  code-clean e = not-refused 12 (has-control w) (none-of _ e .1 .0)
 
 pub accepted-none : (w : List ℕ) → accepted w ≡ true → code-refusal w ≡ 0
 unfolding accepted
@@ -93,3 +111,19 @@ none-accepted w e = eq-eqb (code-refusal w) 0 e
 
 pub accepted-bounds : (w : List ℕ) → accepted w ≡ true → (1 ≤ length w) × (length w ≤ longest-code)
 accepted-bounds w e = code-bounds w (accepted-none w e)
+
+-- of 1 to 255 bytes a code is accepted unless it has a control byte
+pub accepted-within : (w : List ℕ) → 1 ≤ length w → length w ≤ longest-code → accepted w ≡ not (has-control w)
+unfolding accepted
+accepted-within w some few =
+    let none = length-good longest-code (length w) (λ z. omega arith) few in
+    by-test (has-control w)
+    (λ t. rw (t, code-control w none t) refl)
+    (λ t. rw (t, code-good w none t) refl)
+
+pub codes-accepted : Codes-accepted
+unfolding Codes-accepted
+codes-accepted w = (
+  λ e. let b = accepted-bounds w e in (b .0, b .1, clean-bytes w (code-clean w (accepted-none w e))),
+  λ h. accepted-within w (h .0) (h .1) ∙ ap not (bytes-clean w (h .2)),
+)

@@ -20,7 +20,7 @@ unfoldable pub answered : (refusal value : ℕ) → Answer
 answered zero v = Value v
 answered (suc n) v = Refused (suc n)
 
--- an answer's number of document 01's table, 0 for none, and its value, 0 where it is refused
+-- the number of an answer's refusal, 0 for none, and its value, 0 where it is refused
 abbrev pub answer-refusal : Answer → ℕ
 answer-refusal (Value v) = 0
 answer-refusal (Refused n) = n

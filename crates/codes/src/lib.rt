@@ -3,7 +3,7 @@ ghost use mathlib.Core.Path.{_≡_};
 ghost use Prim.Native.Nat.{_≤_};
 ghost use Rattle.automaton.specs.Ceilings.{log2, different};
 ghost use Rattle.codes.specs.Refusals.{answer-refusal, answer-value};
-ghost use Rattle.codes.specs.Codes.{length-refusal, code-refusal};
+ghost use Rattle.codes.specs.Codes.{length-refusal, has-control, code-refusal};
 ghost use Rattle.codes.specs.Entry.{byte-answer, total-answer};
 
 // The longest code that is accepted.
@@ -50,11 +50,33 @@ pub fn length_refusal(longest: usize, m: usize) -> u32
     0
 }
 
+// Whether a code has a control byte, one below 32. It goes on behind the first, so that the compiler tests many at a time.
+pub fn has_control(code: &[u8]) -> bool
+    ensures { λ r. ⌜ r ≡ has-control (now (code .entry)) ⌝ }
+{
+    let mut found = false;
+    let mut i = 0;
+    while i < code.len() {
+        if code[i] < 32 {
+            found = true;
+        }
+        i += 1;
+    }
+    found
+}
+
 // The refusal of a code, 0 for none.
 pub fn code_refusal(code: &[u8]) -> u32
     ensures { λ r. ⌜ r ≡ code-refusal (now (code .entry)) ⌝ }
 {
-    length_refusal(LONGEST as usize, code.len())
+    let refusal = length_refusal(LONGEST as usize, code.len());
+    if refusal != 0 {
+        return refusal;
+    }
+    if has_control(code) {
+        return 13;
+    }
+    0
 }
 
 // The logarithm of m to base 2, rounded down: how many binary digits follow the first 1 of m.

@@ -6,7 +6,7 @@ use Rattle.words.specs.Words.{byte, member, same, suffix, ends-with, is-border,
 use Rattle.runs.specs.Reading.{over, place-if}
 use Rattle.automaton.specs.Arrows.{label, targets-from, forward, back-targets, try-forward, try-back, stepped}
 use Rattle.codes.specs.Refusals.{refused-if, first-refusal}
-use Rattle.codes.specs.Codes.{length-refusal, code-refusal, accepted}
+use Rattle.codes.specs.Codes.{length-refusal, has-control, code-refusal, accepted}
 use Rattle.automaton.specs.Costs.{cost-after, sum}
 use Rattle.finder.specs.Machine.{found-after}
 use Rattle.forms.specs.Ascii.{ascii}
@@ -15,7 +15,7 @@ use Rattle.find.specs.Promise.{search-form, Output-right, Sample-printed
 use Rattle.find.proofs.Outputs.{output-right}
 
 sample-accepted : accepted (ascii "abaab") ≡ true
-unfolding refused-if first-refusal length-refusal code-refusal accepted
+unfolding refused-if first-refusal length-refusal has-control code-refusal accepted
 sample-accepted = refl
 
 sample-form : search-form (ascii "abaab") (ascii "abaababaab") ≡ ascii "(at 0)\n(at 5)\n(end (bytes 10) (hits 2) (compares 15))\n"

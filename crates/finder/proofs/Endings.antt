@@ -1,16 +1,20 @@
 -- What an answer's ending says, and that feeding goes on. Assumes nothing.
-use mathlib.Core.Path.{_≡_, refl, sym, _∙_}
-use mathlib.Core.List.{List, []}
+use mathlib.Core.Path.{_≡_, refl, sym, ap, _∙_}
+use mathlib.Core.Bool.{true, false, not}
+use mathlib.Core.List.{List, [], _++_}
 use Prim.Native.Nat.{ℕ, zero, suc, _-_, _≤_, _<_}
 use native.Mathlib.Omega.{arith}
+use borrow.Author.Tests.{not-false}
 use lib.ListN.{length, drop}
 use Rattle.words.specs.Words.{in-front}
-use Rattle.words.proofs.Tests.{by-test}
+use Rattle.words.proofs.Tests.{by-test, never-both}
 use Rattle.runs.specs.declared.Ending.the-variants.{PieceDone}
 use Rattle.runs.specs.Reading.{Fed, fed, ending, ending-refusal, ending-full}
 use Rattle.runs.proofs.Feeds.{feed-end, takes-some, told-room, ending-none, ending-done, full-says, done-says}
+use Rattle.codes.specs.Codes.{has-control}
 use Rattle.sheets.specs.Sheet.{sheet, named, begins}
-use Rattle.sheets.proofs.Sheets.{begins-accepted, begins-front, sheet-begins}
+use Rattle.sheets.specs.Promise.{Begins-right}
+use Rattle.sheets.proofs.Sheets.{begins-accepted, begins-front, sheet-begins, begins-right}
 use Rattle.finder.specs.declared.Watch.{Watch}
 use Rattle.finder.specs.Feed.{feeder, feed}
 use Rattle.finder.specs.Entry.{Lent, lent, feed-refusal, fed-call, call-by, feed-call}
@@ -39,16 +43,38 @@ unfolding Endings-told feed-call
 endings-told bs x l = endings-by (feed-refusal bs x (length (l .piece)) (length (l .list))) (named bs) x l
 
 -- NUMBER 4
+module _ (x : Watch) (l : Lent) (bs : List ℕ) where
+  abbrev number : ℕ
+  number = ending-refusal (feed-call bs x l .answer .ending)
+
+  four-not-sheet : number ≡ 4 → begins bs ≡ false
+  unfolding Endings-told
+  four-not-sheet e =
+      by-test (begins bs)
+      (λ b. absurd (never-4 bs x (length (l .piece)) (length (l .list)) b (sym (endings-told bs x l .0) ∙ e)))
+      (λ b. b)
+
+  not-sheet-four : begins bs ≡ false → number ≡ 4
+  unfolding Endings-told
+  not-sheet-four b = endings-told bs x l .0 ∙ refuses-4 bs x (length (l .piece)) (length (l .list)) b
+
 pub sheets-told : Sheets-told
-unfolding Sheets-told Endings-told in-front
-sheets-told bs x l =
-    let r = endings-told bs x l .0 in (
-      λ e w rest good is. never-4 bs x (length (l .piece)) (length (l .list)) (rw is (sheet-begins w rest good)) (sym r ∙ e),
-      λ f.
-          by-test (begins bs)
-          (λ b. absurd (f (named bs) (drop (length (sheet (named bs))) bs) (begins-accepted bs b) (begins-front bs b)))
-          (λ b. r ∙ refuses-4 bs x (length (l .piece)) (length (l .list)) b),
-    )
+unfolding Sheets-told Begins-right in-front
+sheets-told x l = (
+  λ bs. (
+    λ e w rest good is. never-both (rw is (sheet-begins w rest good)) (four-not-sheet x l bs e),
+    λ f.
+        not-sheet-four x l bs
+        (by-test (begins bs)
+        (λ b. absurd (f (named bs) (drop (length (sheet (named bs))) bs) (begins-accepted bs b) (begins-front bs b)))
+        (λ b. b)),
+  ),
+  λ w rest some few.
+      let is : begins (sheet w ++ rest) ≡ not (has-control w) = begins-right .0 w rest some few .1 in (
+        λ e. not-false (has-control w) (sym is ∙ four-not-sheet x l (sheet w ++ rest) e),
+        λ e. not-sheet-four x l (sheet w ++ rest) (is ∙ ap not e),
+      ),
+)
 
 -- AN EMPTY PIECE
 empty-changes : (w a : List ℕ) (x : Watch) →

@@ -12,7 +12,7 @@ use Rattle.runs.specs.Reading.{fed, ending-refusal, ending-full}
 use Rattle.runs.specs.Calls.{Outcome, run, Call, called}
 use Rattle.automaton.specs.Ceilings.{byte-ceiling, total-ceiling}
 use Rattle.automaton.specs.Costs.{costs, sum}
-use Rattle.codes.specs.Codes.{accepted}
+use Rattle.codes.specs.Codes.{longest-code, has-control, accepted}
 use Rattle.sheets.specs.Sheet.{sheet}
 use Rattle.sheets.specs.Entry.{prepare-refusal, prepare-buffer}
 use Rattle.finder.specs.declared.Watch.{Watch}
@@ -82,11 +82,15 @@ Endings-told =
     × (ending-full (r .ending) ≡ 1 → (r .written ≡ length (l .list)) × (r .taken < length (l .piece)))
     × (ending-refusal (r .ending) ≡ 0 → ending-full (r .ending) ≡ 0 → r .taken ≡ length (l .piece))
 
--- number 4 comes up exactly where the buffer does not begin with the sheet of an accepted code
+-- number 4 comes up exactly where the buffer does not begin with the sheet of an accepted code; of the sheets of codes of 1 to 255 bytes, exactly for
+-- those of codes with a control byte, the one exception
 unfoldable pub Sheets-told : Type 0
 Sheets-told =
-    (buffer : List ℕ) (x : Watch) (l : Lent) →
-    (ending-refusal (feed-call buffer x l .answer .ending) ≡ 4) ↔ ((w rest : List ℕ) → accepted w ≡ true → buffer ≢ sheet w ++ rest)
+    (x : Watch) (l : Lent) →
+    ((buffer : List ℕ) →
+    (ending-refusal (feed-call buffer x l .answer .ending) ≡ 4) ↔ ((w rest : List ℕ) → accepted w ≡ true → buffer ≢ sheet w ++ rest))
+    × ((w rest : List ℕ) → 1 ≤ length w → length w ≤ longest-code →
+    (ending-refusal (feed-call (sheet w ++ rest) x l .answer .ending) ≡ 4) ↔ (has-control w ≡ true))
 
 -- bytes behind the sheet are not looked at, whatever the watch
 unfoldable pub Behind-unread : Type 0

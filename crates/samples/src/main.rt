@@ -1,7 +1,8 @@
-// Document 01's own samples, run: its bench samples, its refusals, and its errors near at hand, through the library's entry points. Each function here
-// is proved safe and ending; what it answers is seen by running it. tests/beside.c holds the library to a naive search and to the document's machine, on
-// many more codes and texts.
+// Document 01's own samples, run: its bench samples, its refusals, and its errors near at hand, through the library's entry points; and the control bytes
+// of request 107. Each function here is proved safe and ending; what it answers is seen by running it. tests/beside.c holds the library to a naive search
+// and to the document's machine, on many more codes and texts.
 mod bench;
+mod controls;
 mod refusals;
 
 ghost use Prim.Native.Nat.{_≤_};
@@ -166,13 +167,16 @@ fn main() {
     let errors = bench::errors();
     let refused = refusals::refused();
     let accepted = refusals::accepted();
+    let controls = controls::controls();
     print(b"sheets", sheets);
     print(b"searches", searches);
     print(b"errors near at hand", errors);
     print(b"refused", refused);
     print(b"accepted on the other side", accepted);
+    print(b"control bytes", controls);
     let bench = sum(sum(sheets.wrong, searches.wrong), errors.wrong);
-    let wrong = sum(bench, sum(refused.wrong, accepted.wrong));
+    let refusals = sum(sum(refused.wrong, accepted.wrong), controls.wrong);
+    let wrong = sum(bench, refusals);
     io::write_all(1, b"wrong ");
     io::print_decimal(1, wrong as u64);
     io::write_all(1, b"\n");

@@ -1,7 +1,7 @@
 -- Where a sheet has what, and which buffers begin with one. That a buffer begins with a sheet has one name, `begins`; what it tells of the buffer's bytes is
 -- below. Assumes nothing.
 use mathlib.Core.Path.{_≡_, refl, sym, ap, _∙_}
-use mathlib.Core.Bool.{true}
+use mathlib.Core.Bool.{true, and-true}
 use mathlib.Core.List.{List, [], _∷_, _++_}
 use Prim.Native.Nat.{ℕ, suc, _+_, _*_, _-_, _≤_, _<_}
 use native.Mathlib.Nat.{le-refl}
@@ -9,12 +9,12 @@ use native.Mathlib.Omega.{arith}
 use lib.ListN.{length, getD, take, drop, length-append, take-append-drop}
 use lib.Seq.{take-append-seam, getD-take, getD-drop}
 use Rattle.words.specs.Words.{byte, same, in-front}
-use Rattle.words.proofs.Tests.{and-left, and-right, and-both}
+use Rattle.words.proofs.Tests.{and-left, and-right}
 use Rattle.words.proofs.Lists.{eq-same, same-eq}
 use Rattle.automaton.specs.Arrows.{label, arrows-below, all-targets, back-arrows}
 use Rattle.automaton.proofs.FewArrows.{few-below}
 use Rattle.codes.specs.Codes.{longest-code, accepted}
-use Rattle.codes.proofs.Refusals.{accepted-bounds}
+use Rattle.codes.proofs.Refusals.{accepted-bounds, accepted-within}
 use Rattle.sheets.specs.Sheet.{number, layout, sheet, target-place, sheet-room, named, begins}
 use Rattle.sheets.specs.Promise.{Sheet-sized, Sheet-tells, Begins-right}
 use Rattle.sheets.proofs.Layouts.{layout-length, layout-code, layout-count, layout-target}
@@ -76,11 +76,14 @@ pub sheet-tells : Sheet-tells
 unfolding Sheet-tells
 sheet-tells w v xs ys e = sym (sheet-named w xs) ∙ ap named e ∙ sheet-named v ys
 
-pub sheet-begins : (w rest : List ℕ) → accepted w ≡ true → begins (sheet w ++ rest) ≡ true
+-- the sheet of a code is accepted exactly if the code is
+pub begins-by-code : (w rest : List ℕ) → begins (sheet w ++ rest) ≡ accepted w
 unfolding begins
-sheet-begins w rest g =
-    rw (sheet-named w rest)
-    (and-both (accepted w) (same (take (length (sheet w)) (sheet w ++ rest)) (sheet w)) g (eq-same (take-append-seam (sheet w) rest)))
+begins-by-code w rest =
+    rw (sheet-named w rest, eq-same (take-append-seam (sheet w) rest)) (and-true (accepted w))
+
+pub sheet-begins : (w rest : List ℕ) → accepted w ≡ true → begins (sheet w ++ rest) ≡ true
+sheet-begins w rest good = begins-by-code w rest ∙ good
 
 -- A BUFFER THAT BEGINS with a sheet: the code that it names, and what stands where
 module _ (bs : List ℕ) (b : begins bs ≡ true) where
@@ -130,6 +133,6 @@ module _ (bs : List ℕ) (b : begins bs ≡ true) where
 pub begins-right : Begins-right
 unfolding Begins-right
 begins-right = (
-  λ w rest good. (sheet-begins w rest good, sheet-named w rest),
+  λ w rest some few. (sheet-named w rest, begins-by-code w rest ∙ accepted-within w some few),
   λ bs b. (begins-accepted bs b, begins-front bs b),
 )

@@ -45,6 +45,6 @@ longest-sheet = sheet-room longest-code
 unfoldable pub named : (buffer : List ℕ) → List ℕ
 named bs = take (getD bs 0 0) (drop 1 bs)
 
--- whether a buffer begins with the sheet of the code that it names
+-- whether a buffer names an accepted code and begins with its sheet
 unfoldable pub begins : (buffer : List ℕ) → Bool
 begins bs = accepted (named bs) && same (take (length (sheet (named bs))) bs) (sheet (named bs))

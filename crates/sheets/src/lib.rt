@@ -168,7 +168,7 @@ fn same_front(a: &[u8], b: &[u8], n: usize) -> bool
     same
 }
 
-// Whether a buffer begins with the sheet of the code that it names: it is compared with one prepared afresh.
+// Whether a buffer names an accepted code and begins with its sheet: it is compared with one prepared afresh.
 pub fn is_sheet(buffer: &[u8]) -> bool
     ensures { λ r. ⌜ r ≡ begins (now (buffer .entry)) ⌝ }
 {
