@@ -98,13 +98,16 @@ static size_t read_full(uint8_t *bytes, size_t n)
 static int read_code(uint8_t *code, size_t *m)
 {
     uint8_t b[6];
+    uint64_t depth = 0;
 
     if (read_full(b, 6) < 6 || memcmp(b, "(code ", 6) != 0)
         return 0;
     for (*m = 0;;) {
         if (read_full(b, 1) == 0 || b[0] == '\n')
             return 0;
-        if (b[0] == ')')
+        if (b[0] == '(' && ++depth == 0)
+            return 0;
+        if (b[0] == ')' && depth-- == 0)
             break;
         if (*m <= LONGEST_CODE)
             code[(*m)++] = b[0];

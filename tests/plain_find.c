@@ -30,6 +30,20 @@ static int has_control(void)
     return 0;
 }
 
+/* The bracket that matches the input's first byte, an opening one; NULL if none does. */
+static const uint8_t *matching_bracket(void)
+{
+    size_t i, opened = 0, closed = 0;
+
+    for (i = 0; i < input_length; i++) {
+        opened += input[i] == '(';
+        closed += input[i] == ')';
+        if (opened == closed)
+            return input + i;
+    }
+    return NULL;
+}
+
 /* Finds the code and the text; 0, or the refusal. */
 static int read_first_line(void)
 {
@@ -38,8 +52,8 @@ static int read_first_line(void)
     if (input_length < 6 || memcmp(input, "(code ", 6) != 0)
         return 8;
     code = input + 6;
-    bracket = memchr(code, ')', input_length - 6);
-    feed = memchr(code, '\n', input_length - 6);
+    bracket = matching_bracket();
+    feed = memchr(input, '\n', input_length);
     if (bracket == NULL || feed != bracket + 1)
         return 8;
     m = (size_t)(bracket - code);

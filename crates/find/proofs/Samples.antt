@@ -10,6 +10,7 @@ use Rattle.codes.specs.Codes.{length-refusal, has-control, code-refusal, accept
 use Rattle.automaton.specs.Costs.{cost-after, sum}
 use Rattle.finder.specs.Machine.{found-after}
 use Rattle.forms.specs.Ascii.{ascii}
+use Rattle.forms.specs.Line.{of-code, depth-after, pairs}
 use Rattle.forms.specs.Text.{digits-of, decimal, place-form, place-forms, end-form}
 use Rattle.find.specs.Promise.{search-form, Output-right, Sample-printed}
 use Rattle.find.proofs.Outputs.{output-right}
@@ -24,8 +25,8 @@ unfolding byte member same suffix ends-with is-border largest state-of label tar
 sample-form = refl
 
 pub sample-printed : Sample-printed
-unfolding Sample-printed Output-right
+unfolding Sample-printed Output-right of-code depth-after pairs
 sample-printed =
     output-right (ascii "(code abaab)\nabaababaab") (ascii "abaab") (ascii "abaababaab")
-    (record { whole = refl; inside = (refl, (refl, (refl, (refl, (refl, tt))))) }) sample-accepted (omega arith)
+    (record { whole = refl; paired = refl }) sample-accepted (omega arith)
     ∙ sample-form

@@ -1,3 +1,4 @@
 pub mod Writing
 pub mod Decimals
+pub mod Pairs
 pub mod Lines

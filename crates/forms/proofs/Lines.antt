@@ -7,24 +7,28 @@ use Prim.Native.Nat.{ℕ, zero, suc, _+_, _≤_, _<_, min, zero-le}
 use native.Mathlib.Nat.{zero-add}
 use native.Mathlib.Numerals.{add-one}
 use native.Mathlib.Omega.{arith}
-use borrow.Author.Tests.{lt-ltb, le-ltb, eq-eqb, ne-eqb}
+use borrow.Author.Tests.{lt-ltb, le-ltb, ltb-false, eq-eqb, ne-eqb, eqb-true}
 use lib.Dec.{ltb, eqb}
 use lib.ListN.{length, getD, set, drop, length-set}
 use lib.Seq.{sets, set-out, drop-cons}
-use Rattle.words.specs.Words.{Every}
-use Rattle.words.proofs.Tests.{by-le, by-eq}
+use Rattle.words.proofs.Tests.{by-test, by-le, by-eq, and-left, and-right}
 use Rattle.forms.specs.declared.Line.{Line}
 use Rattle.forms.specs.declared.Line.the-variants.{Opening, Code, Closed, Done, Wrong}
-use Rattle.forms.specs.Line.{opening, bracket, line-feed, of-code, line-after, kept-after, goes-on, Read, read}
+use Rattle.forms.specs.Line.{opening, closing-bracket, line-feed, of-code, depth-after, pairs, line-after, kept-after, goes-on, Read, read}
 use Rattle.forms.specs.Promise.{Lines-read, Others-refused}
 use Rattle.forms.proofs.Writing.{sets-out}
+use Rattle.forms.proofs.Pairs.{of-code-closing}
+
+-- so far into the code
+abbrev code-at : (kept depth : ℕ) → Line
+code-at n d = Code (record { kept = n; depth = d })
 
 -- ONE BYTE of the opening
 pub opening-more : (k n b : ℕ) → n < 5 → getD opening n 0 ≡ b → line-after k (Opening n) b ≡ Opening (n + 1)
 unfolding line-after
 opening-more k n b h e = rw (lt-ltb n 6 (omega arith), eq-eqb (getD opening n 0) b e, ne-eqb n 5 (λ e. omega (arith, e))) refl
 
-pub opening-last : (k n b : ℕ) → n ≡ 5 → getD opening n 0 ≡ b → line-after k (Opening n) b ≡ Code 0
+pub opening-last : (k n b : ℕ) → n ≡ 5 → getD opening n 0 ≡ b → line-after k (Opening n) b ≡ code-at 0 0
 unfolding line-after
 opening-last k n b h e = rw (lt-ltb n 6 (omega arith), eq-eqb (getD opening n 0) b e, eq-eqb n 5 h) refl
 
@@ -32,7 +36,7 @@ pub opening-wrong : (k n b : ℕ) → getD opening n 0 ≢ b → line-after k (O
 unfolding line-after
 opening-wrong k n b h = rw (ne-eqb (getD opening n 0) b h) (go (ltb n 6))
   where
-    go : (t : Bool) → cond (t && false) (cond (eqb n 5) (Code 0) (Opening (n + 1))) Wrong ≡ Wrong
+    go : (t : Bool) → cond (t && false) (cond (eqb n 5) (code-at 0 0) (Opening (n + 1))) Wrong ≡ Wrong
     go true = refl
     go false = refl
 
@@ -40,28 +44,31 @@ pub opening-past : (k n b : ℕ) → 6 ≤ n → line-after k (Opening n) b ≡ 
 unfolding line-after
 opening-past k n b h = rw (le-ltb n 6 h) refl
 
--- one byte of the code: kept, or without room for it; its closing bracket; a line feed
-pub is-of-code : (b : ℕ) → b ≢ bracket → b ≢ line-feed → of-code b ≡ true
-is-of-code b h g = rw (ne-eqb b bracket h, ne-eqb b line-feed g) refl
-
+-- one byte of the code: kept, or without room for it; the bracket that closes it; a byte that may not stand there
 abbrev After : (line : Line) → (b : ℕ) → (a : List ℕ) → (after : Line) → (kept : List ℕ) → Type 0
 After l b a m c = (m ≡ line-after (length a) l b) × (c ≡ kept-after l b a)
 
-pub code-kept : (n b : ℕ) (a : List ℕ) → of-code b ≡ true → n < length a → After (Code n) b a (Code (n + 1)) (set a n b)
-unfolding line-after kept-after
-code-kept n b a t h = (rw (t, lt-ltb n (length a) h) refl, rw t refl)
+module _ (n d b : ℕ) (a : List ℕ) where
+  abbrev kept-more : ℕ
+  kept-more = cond (ltb n (length a)) (n + 1) n
 
-pub code-full : (n b : ℕ) (a : List ℕ) → of-code b ≡ true → length a ≤ n → After (Code n) b a (Code n) a
-unfolding line-after kept-after
-code-full n b a t h = (rw (t, le-ltb n (length a) h) refl, rw t (sym (set-out a n b h)))
+  code-more : of-code d b ≡ true → After (code-at n d) b a (code-at kept-more (depth-after d b)) (set a n b)
+  unfolding line-after kept-after
+  code-more t = rw t (refl, refl)
 
-pub code-closed : (n b : ℕ) (a : List ℕ) → b ≡ bracket → After (Code n) b a (Closed n) a
-unfolding line-after kept-after
-code-closed n b a e = rw e (refl, refl)
+  pub code-kept : (e : ℕ) → of-code d b ≡ true → e ≡ depth-after d b → n < length a → After (code-at n d) b a (code-at (n + 1) e) (set a n b)
+  code-kept e t g h = rw (lt-ltb n (length a) h, ← g) at (code-more t)
 
-pub code-wrong : (n b : ℕ) (a : List ℕ) → b ≡ line-feed → After (Code n) b a Wrong a
-unfolding line-after kept-after
-code-wrong n b a e = rw e (refl, refl)
+  pub code-full : (e : ℕ) → of-code d b ≡ true → e ≡ depth-after d b → length a ≤ n → After (code-at n d) b a (code-at n e) a
+  code-full e t g h = rw (le-ltb n (length a) h, set-out a n b h, ← g) at (code-more t)
+
+  pub code-closed : of-code d b ≡ false → b ≡ closing-bracket → After (code-at n d) b a (Closed n) a
+  unfolding line-after kept-after
+  code-closed t e = rw (t, eq-eqb b closing-bracket e) (refl, refl)
+
+  pub code-wrong : of-code d b ≡ false → b ≢ closing-bracket → After (code-at n d) b a Wrong a
+  unfolding line-after kept-after
+  code-wrong t h = rw (t, ne-eqb b closing-bracket h) (refl, refl)
 
 -- behind the closing bracket
 pub line-done : (n b : ℕ) (a : List ℕ) → b ≡ line-feed → After (Closed n) b a (Done n) a
@@ -96,30 +103,34 @@ ends-wrong l a t = ap (λ (r : Read). r .line) (read-end l a t) ∙ stays-wrong 
 abbrev read-to : (n : ℕ) → (kept text : List ℕ) → Read
 read-to n a ts = record { line = Done n; kept-bytes = a; rest = ts }
 
-code-read : (code text a : List ℕ) (n : ℕ) → n ≤ length a → Every (λ b. of-code b ≡ true) code →
-    read (Code n) a (code ++ bracket ∷ line-feed ∷ text) ≡ read-to (min (n + length code) (length a)) (sets a n code) text
-code-read [] text a n h t =
+code-read : (code text a : List ℕ) (n d : ℕ) → n ≤ length a → pairs d code ≡ true →
+    read (code-at n d) a (code ++ closing-bracket ∷ line-feed ∷ text) ≡ read-to (min (n + length code) (length a)) (sets a n code) text
+unfolding pairs
+code-read [] text a n d h t =
+    let none : of-code d closing-bracket ≡ false = rw (eqb-true d 0 t) (of-code-closing 0 closing-bracket refl) in
     let e : n ≡ min (n + 0) (length a) = omega arith in
-    read-on bracket (line-feed ∷ text) a (Code n) (Closed n) a refl (code-closed n bracket a refl)
+    read-on closing-bracket (line-feed ∷ text) a (code-at n d) (Closed n) a refl (code-closed n d closing-bracket a none refl)
     ∙ read-on line-feed text a (Closed n) (Done n) a refl (line-done n line-feed a refl)
     ∙ read-over (Done n) a text refl
     ∙ ap (λ (k : ℕ). read-to k a text) e
-code-read (b ∷ bs) text a n h t =
+code-read (b ∷ bs) text a n d h t =
+    let stands : of-code d b ≡ true = and-left (of-code d b) (pairs (depth-after d b) bs) t in
+    let others : pairs (depth-after d b) bs ≡ true = and-right (of-code d b) (pairs (depth-after d b) bs) t in
     by-le (length a) n
     (λ (l : length a ≤ n).
     let e : min (n + length bs) (length a) ≡ min (n + suc (length bs)) (length a) = omega arith in
     let s : sets a n bs ≡ sets (set a n b) (suc n) bs =
     sets-out a n bs l ∙ sym (ap (λ (c : List ℕ). sets c (suc n) bs) (set-out a n b l) ∙ sets-out a (suc n) bs (omega arith)) in
-    read-on b (bs ++ bracket ∷ line-feed ∷ text) a (Code n) (Code n) a refl (code-full n b a (t .0) l)
-    ∙ code-read bs text a n h (t .1)
+    read-on b (bs ++ closing-bracket ∷ line-feed ∷ text) a (code-at n d) (code-at n (depth-after d b)) a refl (code-full n d b a (depth-after d b) stands refl l)
+    ∙ code-read bs text a n (depth-after d b) h others
     ∙ rw (e, s) refl)
     (λ (l : n < length a).
     let e : min ((n + 1) + length bs) (length (set a n b)) ≡ min (n + suc (length bs)) (length a) = omega (arith, length-set a n b) in
-    read-on b (bs ++ bracket ∷ line-feed ∷ text) a (Code n) (Code (n + 1)) (set a n b) refl (code-kept n b a (t .0) l)
-    ∙ code-read bs text (set a n b) (n + 1) (omega (arith, length-set a n b)) (t .1)
+    read-on b (bs ++ closing-bracket ∷ line-feed ∷ text) a (code-at n d) (code-at (n + 1) (depth-after d b)) (set a n b) refl (code-kept n d b a (depth-after d b) stands refl l)
+    ∙ code-read bs text (set a n b) (n + 1) (depth-after d b) (omega (arith, length-set a n b)) others
     ∙ rw (e, add-one n) refl)
 
-opening-read : (a bs : List ℕ) → read (Opening 0) a (opening ++ bs) ≡ read (Code 0) a bs
+opening-read : (a bs : List ℕ) → read (Opening 0) a (opening ++ bs) ≡ read (code-at 0 0) a bs
 unfolding read line-after kept-after
 opening-read a bs = refl
 
@@ -127,8 +138,8 @@ pub lines-read : Lines-read
 unfolding Lines-read
 lines-read input code text kept f =
     rw (f .whole)
-    (opening-read kept (code ++ bracket ∷ line-feed ∷ text)
-    ∙ code-read code text kept 0 zero-le (f .inside)
+    (opening-read kept (code ++ closing-bracket ∷ line-feed ∷ text)
+    ∙ code-read code text kept 0 0 zero-le (f .paired)
     ∙ ap (λ (k : ℕ). read-to (min k (length kept)) (sets kept 0 code) text) (zero-add (length code)))
 
 -- NOTHING ELSE is: a line that is not wrong has the opening, a code, its bracket and a line feed
@@ -139,27 +150,25 @@ closed-only n a (b ∷ bs) h =
     (λ (e : b ≡ line-feed). absurd (h bs (ap (λ (c : ℕ). c ∷ bs) e)))
     (λ (e : b ≢ line-feed). ap (λ (r : Read). r .line) (read-on b bs a (Closed n) Wrong a refl (line-wrong n b a e)) ∙ stays-wrong a bs)
 
-code-only : (n : ℕ) (a bs : List ℕ) →
-    ((code text : List ℕ) → Every (λ b. of-code b ≡ true) code → bs ≡ code ++ bracket ∷ line-feed ∷ text → ⊥) →
-    read (Code n) a bs .line ≡ Wrong
-code-only n a [] h = ends-wrong (Code n) a refl
-code-only n a (b ∷ bs) h =
-    by-eq b bracket
-    (λ (e : b ≡ bracket).
-    ap (λ (r : Read). r .line) (read-on b bs a (Code n) (Closed n) a refl (code-closed n b a e))
-    ∙ closed-only n a bs (λ text f. h [] text tt (rw (e, f) refl)))
-    (λ (e : b ≢ bracket).
-    by-eq b line-feed
-    (λ (f : b ≡ line-feed). ap (λ (r : Read). r .line) (read-on b bs a (Code n) Wrong a refl (code-wrong n b a f)) ∙ stays-wrong a bs)
-    (λ (f : b ≢ line-feed).
-    let t : of-code b ≡ true = is-of-code b e f in
-    by-le (length a) n
-    (λ (l : length a ≤ n).
-    ap (λ (r : Read). r .line) (read-on b bs a (Code n) (Code n) a refl (code-full n b a t l))
-    ∙ code-only n a bs (λ code text g w. h (b ∷ code) text (t, g) (ap (λ (c : List ℕ). b ∷ c) w)))
-    (λ (l : n < length a).
-    ap (λ (r : Read). r .line) (read-on b bs a (Code n) (Code (n + 1)) (set a n b) refl (code-kept n b a t l))
-    ∙ code-only (n + 1) (set a n b) bs (λ code text g w. h (b ∷ code) text (t, g) (ap (λ (c : List ℕ). b ∷ c) w)))))
+code-only : (n d : ℕ) (a bs : List ℕ) →
+    ((code text : List ℕ) → pairs d code ≡ true → bs ≡ code ++ closing-bracket ∷ line-feed ∷ text → ⊥) → read (code-at n d) a bs .line ≡ Wrong
+unfolding pairs
+code-only n d a [] h = ends-wrong (code-at n d) a refl
+code-only n d a (b ∷ bs) h =
+    by-test (of-code d b)
+    (λ (t : of-code d b ≡ true).
+    ap (λ (r : Read). r .line) (read-on b bs a (code-at n d) (code-at (kept-more n d b a) (depth-after d b)) (set a n b) refl (code-more n d b a t))
+    ∙ code-only (kept-more n d b a) (depth-after d b) (set a n b) bs (λ code text g w. h (b ∷ code) text (rw t g) (ap (λ (c : List ℕ). b ∷ c) w)))
+    (λ (t : of-code d b ≡ false). by-eq b closing-bracket (closes t) (breaks t))
+  where
+    closes : of-code d b ≡ false → b ≡ closing-bracket → read (code-at n d) a (b ∷ bs) .line ≡ Wrong
+    closes t e =
+        let none : d ≤ 0 = ltb-false 0 d (sym (of-code-closing d b e) ∙ t) in
+        ap (λ (r : Read). r .line) (read-on b bs a (code-at n d) (Closed n) a refl (code-closed n d b a t e))
+        ∙ closed-only n a bs (λ text f. h [] text (eq-eqb d 0 (omega arith)) (rw (e, f) refl))
+
+    breaks : of-code d b ≡ false → b ≢ closing-bracket → read (code-at n d) a (b ∷ bs) .line ≡ Wrong
+    breaks t e = ap (λ (r : Read). r .line) (read-on b bs a (code-at n d) Wrong a refl (code-wrong n d b a t e)) ∙ stays-wrong a bs
 
 -- a byte of the opening, and what is behind it
 opening-split : (n b : ℕ) (bs rest : List ℕ) → n < 6 → getD opening n 0 ≡ b → bs ≡ drop (suc n) opening ++ rest → b ∷ bs ≡ drop n opening ++ rest
@@ -170,13 +179,13 @@ unfolding kept-after
 opening-goes n b a bs m e = ap (λ (r : Read). r .line) (read-on b bs a (Opening n) m a refl (sym e, refl))
 
 opening-only : (k n : ℕ) (a bs : List ℕ) → n + suc k ≡ 6 →
-    ((rest : List ℕ) → bs ≡ drop n opening ++ rest → read (Code 0) a rest .line ≡ Wrong) → read (Opening n) a bs .line ≡ Wrong
+    ((rest : List ℕ) → bs ≡ drop n opening ++ rest → read (code-at 0 0) a rest .line ≡ Wrong) → read (Opening n) a bs .line ≡ Wrong
 opening-only k n a [] m h = ends-wrong (Opening n) a refl
 opening-only zero n a (b ∷ bs) m h =
     let last : n ≡ 5 = omega arith in
     by-eq (getD opening n 0) b
     (λ (e : getD opening n 0 ≡ b).
-    opening-goes n b a bs (Code 0) (opening-last (length a) n b last e) ∙ h bs (opening-split n b bs bs (omega arith) e (rw last refl)))
+    opening-goes n b a bs (code-at 0 0) (opening-last (length a) n b last e) ∙ h bs (opening-split n b bs bs (omega arith) e (rw last refl)))
     (λ (e : getD opening n 0 ≢ b). opening-goes n b a bs Wrong (opening-wrong (length a) n b e) ∙ stays-wrong a bs)
 opening-only (suc k) n a (b ∷ bs) m h =
     by-eq (getD opening n 0) b
@@ -189,4 +198,4 @@ pub others-refused : Others-refused
 unfolding Others-refused
 others-refused input kept h =
     opening-only 5 0 kept input refl
-    (λ rest e. code-only 0 kept rest (λ code text t w. h code text (record { whole = e ∙ ap (λ (l : List ℕ). opening ++ l) w; inside = t })))
+    (λ rest e. code-only 0 0 kept rest (λ code text t w. h code text (record { whole = e ∙ ap (λ (l : List ℕ). opening ++ l) w; paired = t })))

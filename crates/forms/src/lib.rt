@@ -1,17 +1,24 @@
 // The program's forms: the line that its input begins with, and the lines that it prints.
 ghost use mathlib.Core.Path.{_≡_};
+ghost use mathlib.Core.Bool.{true};
 ghost use mathlib.Core.List.{[], _∷_, _++_};
 ghost use Prim.Native.Nat.{_*_};
 ghost use lib.ListN.{length};
 ghost use Rattle.forms.specs.Ascii.{ascii};
 ghost use Rattle.forms.specs.Text.{decimal, place-form, place-forms, end-form, refused-form, Written, Written-within};
-ghost use Rattle.forms.specs.Line.{line-after, kept-after, goes-on};
+ghost use Rattle.forms.specs.Line.{of-code, depth-after, line-after, kept-after, goes-on};
 
-// How far the first line was read: so many bytes of `(code `; of the code, with so many bytes kept; its closing bracket;
-// the line feed, and so the line is of its form; or it is not of its form.
+// How far a code was read: so many of its bytes were kept, and so many of its brackets are open.
+pub struct Inside {
+    pub kept: usize,
+    pub depth: u64,
+}
+
+// How far the first line was read: so many bytes of `(code `; so far into the code; its closing bracket, with so many bytes of the code kept; the line
+// feed, and so the line is of its form; or it is not of its form.
 pub enum Line {
     Opening(usize),
-    Code(usize),
+    Code(Inside),
     Closed(usize),
     Done(usize),
     Wrong,
@@ -38,7 +45,7 @@ fn opening_byte(n: usize, byte: u8) -> Line
     if n < 6 {
         if opening[n] == byte {
             if n == 5 {
-                return Line::Code(0);
+                return Line::Code(Inside { kept: 0, depth: 0 });
             }
             return Line::Opening(n + 1);
         }
@@ -46,23 +53,52 @@ fn opening_byte(n: usize, byte: u8) -> Line
     Line::Wrong
 }
 
-// One byte of the code or its closing bracket, after n bytes that were kept. Of a code with more bytes than have room the rest is not kept.
-fn code_byte(n: usize, byte: u8, kept: &mut [u8]) -> Line
-    ensures { λ r. ⌜
-        (r ≡ line-after (length (now (kept .entry))) (Line.Code n) byte)
-        × (now (kept .exit) ≡ kept-after (Line.Code n) byte (now (kept .entry))) ⌝ }
+// Whether a byte may stand in a code where so many brackets are open.
+fn of_code(depth: u64, byte: u8) -> bool
+    ensures { λ r. ⌜ r ≡ of-code depth byte ⌝ }
 {
-    if byte == b')' {
-        return Line::Closed(n);
+    if byte == b'(' {
+        return depth < u64::MAX;
     }
-    if byte == b'\n' {
+    if byte == b')' {
+        return 0 < depth;
+    }
+    byte != b'\n'
+}
+
+// How many brackets are open behind a byte that may stand there.
+fn depth_after(depth: u64, byte: u8) -> u64
+    requires { ⌜ of-code depth byte ≡ true ⌝ }
+    ensures { λ r. ⌜ r ≡ depth-after depth byte ⌝ }
+{
+    if byte == b'(' {
+        return depth + 1;
+    }
+    if byte == b')' {
+        return depth - 1;
+    }
+    depth
+}
+
+// One byte of the code, or the bracket that closes it. Of a code with more bytes than have room the rest is not kept.
+fn code_byte(inside: Inside, byte: u8, kept: &mut [u8]) -> Line
+    ensures { λ r. ⌜
+        (r ≡ line-after (length (now (kept .entry))) (Line.Code inside) byte)
+        × (now (kept .exit) ≡ kept-after (Line.Code inside) byte (now (kept .entry))) ⌝ }
+{
+    let n = inside.kept;
+    if !of_code(inside.depth, byte) {
+        if byte == b')' {
+            return Line::Closed(n);
+        }
         return Line::Wrong;
     }
+    let depth = depth_after(inside.depth, byte);
     if n < kept.len() {
         kept[n] = byte;
-        return Line::Code(n + 1);
+        return Line::Code(Inside { kept: n + 1, depth });
     }
-    Line::Code(n)
+    Line::Code(Inside { kept: n, depth })
 }
 
 // One byte of the first line; those of the code are kept as long as there is room.
@@ -71,7 +107,7 @@ pub fn line_byte(line: Line, byte: u8, kept: &mut [u8]) -> Line
 {
     match line {
         Line::Opening(n) => opening_byte(n, byte),
-        Line::Code(n) => code_byte(n, byte, kept),
+        Line::Code(inside) => code_byte(inside, byte, kept),
         Line::Closed(n) => {
             if byte == b'\n' {
                 Line::Done(n)

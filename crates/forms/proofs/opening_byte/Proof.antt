@@ -12,8 +12,8 @@ array-read-if2 c = search needs
 returns : tie.Need-returns
 returns c = sym (opening-last 0 _ _ (c .if3 .taken) (c .before .if2 .taken))
 
-add-t10 : tie.Need-add-t10
-add-t10 c = search needs
+add-t11 : tie.Need-add-t11
+add-t11 c = search needs
 
 returns-2 : tie.Need-returns-2
 returns-2 c = sym (opening-more 0 _ _ (omega arith) (c .before .if2 .taken))
@@ -26,4 +26,4 @@ returns-4 c = sym (opening-past 0 _ _ (omega arith))
 
 pub opening-byte-spec : {M : Type 1} → statement M
 opening-byte-spec =
-    tie.close (tie.spec array-read-if2 returns add-t10 returns-2 returns-3 returns-4)
+    tie.close (tie.spec array-read-if2 returns add-t11 returns-2 returns-3 returns-4)
