@@ -94,7 +94,7 @@ static size_t read_full(uint8_t *bytes, size_t n)
     return done;
 }
 
-/* Reads the first line into a code of m bytes, of which at most 256 are kept. Returns whether the line has its form. */
+/* Reads the first line into a code of m bytes, of which at most 4,001 are kept. Returns whether the line has its form. */
 static int read_code(uint8_t *code, size_t *m)
 {
     uint8_t b[6];

@@ -1,4 +1,5 @@
-/* compare MB ROUNDS: an earlier build of the finder and today's, on every text and every code; prints four tables. The fastest copy of a build counts. */
+/* compare MB ROUNDS: an earlier build of the finder and today's, on every text and every code that the earlier one takes; prints four tables. The fastest copy
+ * of a build counts. */
 #include <math.h>
 #include <stdint.h>
 #include <stdio.h>
@@ -32,6 +33,7 @@ struct table {
     int rounds;
     double *of_rounds; /* room for a ratio of each */
     struct ratios ratios;
+    int left_out; /* rows that are not there, since the earlier build refuses the code */
 };
 
 /* Nanoseconds for each byte, of one copy of a build. */
@@ -91,6 +93,15 @@ static void check_builds(void)
     }
 }
 
+/* Whether the earlier build refuses a code, which is then left out. */
+static int leaves_out(struct table *t, const uint8_t *code, size_t length)
+{
+    int refused = !is_taken(preparers[BEFORE][0], code, length);
+
+    t->left_out += refused;
+    return refused;
+}
+
 /* Both builds must make the same sheet of a code. */
 static void agree_on_sheet(const uint8_t *code, size_t length, const char *name)
 {
@@ -131,19 +142,21 @@ static void add_row(struct table *t, const char *name, const char *code_name, ti
         t->of_rounds[r] = fastest[BEFORE] / fastest[AFTER];
     }
     double ratio = median(t->of_rounds, t->rounds);
-    printf("| %-19s | %-17s | %7.3f | %7.3f | %12.3f |\n", name, code_name, best[BEFORE], best[AFTER], ratio);
+    printf("| %-19s | %-18s | %7.3f | %7.3f | %12.3f |\n", name, code_name, best[BEFORE], best[AFTER], ratio);
     fflush(stdout);
     add_ratio(&t->ratios, ratio);
 }
 
 static void print_head(const char *title, const char *name, const char *code_name)
 {
-    printf("\n## %s\n\n| %-19s | %-17s | %7s | %7s | %12s |\n|---|---|--:|--:|--:|\n", title, name, code_name, "before", "after", "before/after");
+    printf("\n## %s\n\n| %-19s | %-18s | %7s | %7s | %12s |\n|---|---|--:|--:|--:|\n", title, name, code_name, "before", "after", "before/after");
 }
 
 static void print_end(const struct table *t, double aim)
 {
     printf("\nbefore/after: smallest %.3f (aim %.2f), geometric mean %.3f.\n", t->ratios.smallest, aim, mean_ratio(&t->ratios));
+    if (t->left_out > 0)
+        printf("Left out: %d with codes that the earlier build refuses.\n", t->left_out);
 }
 
 static void compare_feeding(struct table t)
@@ -151,6 +164,8 @@ static void compare_feeding(struct table t)
     print_head("Feeding", "Text", "Code");
     for (const struct job *j = jobs; j->make; j++) {
         set_up(&s, j, preparers[AFTER][0]);
+        if (leaves_out(&t, s.code, s.m))
+            continue;
         agree_on_sheet(s.code, s.m, j->code_name);
         agree_on_text(j->text_name);
         add_row(&t, j->text_name, j->code_name, time_feeding);
@@ -170,6 +185,8 @@ static void compare_small_pieces(struct table t)
         if (!j->small)
             continue;
         set_up(&s, j, preparers[AFTER][0]);
+        if (leaves_out(&t, s.code, s.m))
+            continue;
         for (size_t k = 0; k < sizeof pieces / sizeof *pieces; k++) {
             s.piece = pieces[k];
             s.n = CALLS * s.piece;
@@ -191,10 +208,12 @@ static void compare_preparing(struct table t)
     print_head("Preparing", "Codes", "m");
     for (int l = 0; l < LENGTHS; l++) {
         m = lengths[l];
-        for (int k = 0; k < SHAPES; k++) {
+        for (int k = 0; k < SHAPES; k++)
             shapes[k].make(codes[k], m);
+        if (leaves_out(&t, codes[0], m))
+            continue;
+        for (int k = 0; k < SHAPES; k++)
             agree_on_sheet(codes[k], m, shapes[k].name);
-        }
         snprintf(length, sizeof length, "%zu", m);
         add_row(&t, "one of each shape", length, time_preparing);
     }

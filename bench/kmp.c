@@ -20,8 +20,9 @@ void kmp_prepare(const uint8_t *code, size_t m)
 struct fed kmp_feed(const uint8_t *sheet, size_t sheet_length, uint32_t state, uint32_t taken, uint32_t hits, uint64_t compares,
                     const uint8_t *piece, size_t piece_length, uint32_t *places, size_t room)
 {
-    const uint8_t *code = sheet + 1;
-    int m = sheet[0];
+    int wide = sheet[0] == 0;
+    const uint8_t *code = sheet + (wide ? 3 : 1);
+    int m = wide ? sheet[1] << 8 | sheet[2] : sheet[0];
     int p = (int)state;
     uint32_t i = 0;
     uint32_t written = 0;

@@ -11,7 +11,10 @@
 #include "rivals.h"
 #include "tasks.h"
 
-enum { DEAREST_IN = 1 << 20 }; /* bytes among which the dearest is looked for */
+enum {
+    DEAREST_IN = 1 << 20, /* bytes among which the dearest is looked for */
+    FEWER = 1 << 16,      /* the same for a code of more than 255 bytes: the test of its sheet takes longer */
+};
 
 static const double twice = 1.9; /* so many comparisons for each byte of a text are about twice those that KMP makes */
 static const double patience = 2.0; /* a finder that has used so many seconds on a text is not run on it again */
@@ -147,11 +150,12 @@ static struct found agreed(const int *present)
 /* The cost of the dearest byte among the first ones, each fed as a piece of its own. */
 static uint64_t dearest(void)
 {
+    const size_t end = s.m <= LONGEST_SHORT ? DEAREST_IN : FEWER;
     struct fed f = {0};
     uint64_t most = 0;
     uint32_t place;
 
-    for (size_t i = 0; i < s.n && i < DEAREST_IN; i++) {
+    for (size_t i = 0; i < s.n && i < end; i++) {
         uint64_t before = f.compares;
         f = feeders[RATTLE][0](s.sheet, s.sheet_length, f.state, f.taken, f.hits, f.compares, s.text + i, 1, &place, 1);
         if (f.compares - before > most)
@@ -229,7 +233,7 @@ static void print_speed(double seconds, int present, const char *mark)
 
 static void print_head(void)
 {
-    printf("| %-19s | %-17s |   m | %8s |", "Text", "Code", "places");
+    printf("| %-19s | %-18s |    m | %8s |", "Text", "Code", "places");
     for (int f = 0; f < FINDERS; f++)
         printf(" %7s |", names[f]);
     printf(" Rattle/C | comp./byte | (2m-1)/m | dearest | ceiling |\n");
@@ -241,7 +245,7 @@ static void print_head(void)
 
 static void print_row(const struct job *j, const struct found *r, const double *best, double ratio, const int *present)
 {
-    printf("| %-19s | %-17s | %3zu | %8llu |", j->text_name, j->code_name, s.m, (unsigned long long)r->hits);
+    printf("| %-19s | %-18s | %4zu | %8llu |", j->text_name, j->code_name, s.m, (unsigned long long)r->hits);
     for (int f = 0; f < FINDERS; f++)
         print_speed(best[f], present[f], f >= GREP && r->overlap ? "*" : "");
     printf(" %8.2f | %10.4f | %8.4f | %7llu | %7u |\n", ratio, (double)r->compares / (double)s.n,
@@ -262,14 +266,15 @@ static void print_notes(int rounds)
     printf("grep -F -o -b -a and rg with the same options: whole processes that read a file and print, in lines; of overlapping places they report only "
            "some (*).\n");
     printf("Where no places overlap theirs are the same too. A code with a line feed cannot be given to them; none here has one.\n");
-    printf("comp./byte: comparisons per byte of text, the same in Rattle and twin, at most (2m-1)/m. dearest: those of the dearest of the first %d bytes; its ceiling.\n",
-           DEAREST_IN);
+    printf("comp./byte: comparisons per byte of text, the same in Rattle and twin, at most (2m-1)/m. dearest: those of the dearest of the first %d bytes (m over %d: "
+           "%d); its ceiling.\n",
+           DEAREST_IN, LONGEST_SHORT, FEWER);
 }
 
 int main(int argc, char **argv)
 {
     int present[FINDERS] = {1, 1, 1, 1, 0, 0};
-    struct ratios ratios = {0};
+    struct ratios ratios = {0}, wide_ratios = {0};
     double on_one_letter = 0;
     double to_kmp = HUGE_VAL;
 
@@ -300,17 +305,19 @@ int main(int argc, char **argv)
             stop("over the total ceiling", j->text_name);
         double ratio = measure(present, rounds, best);
         print_row(j, &r, best, ratio, present);
-        add_ratio(&ratios, ratio);
-        if ((double)r.compares < twice * (double)s.n)
+        add_ratio(s.m <= LONGEST_SHORT ? &ratios : &wide_ratios, ratio);
+        if (s.m <= LONGEST_SHORT && (double)r.compares < twice * (double)s.n)
             to_kmp = fmin(to_kmp, best[KMP] / best[RATTLE]);
         if (j->make == one_letter && s.m == 255)
             on_one_letter = best[MEMMEM] / best[RATTLE];
     }
     print_notes(rounds);
-    printf("\nRattle/C: geometric mean %.2f (aim 2.00), smallest %.2f (aim 1.00).\n", mean_ratio(&ratios), ratios.smallest);
-    printf("Rattle's speed to KMP's: smallest %.2f (aim 0.90) where fewer than %.1f comparisons are made for a byte; KMP, which compares the forward label first, "
-           "makes about half of them elsewhere.\n",
-           to_kmp, twice);
+    printf("\nRattle/C: geometric mean %.2f (aim 2.00), smallest %.2f (aim 1.00) for codes of up to %d bytes; %.2f and %.2f for longer ones, with the test of a "
+           "longer sheet in each feeding.\n",
+           mean_ratio(&ratios), ratios.smallest, LONGEST_SHORT, mean_ratio(&wide_ratios), wide_ratios.smallest);
+    printf("Rattle's speed to KMP's: smallest %.2f (aim 0.90) for codes of up to %d bytes where fewer than %.1f comparisons are made for a byte; KMP, which compares "
+           "the forward label first, makes about half of them elsewhere.\n",
+           to_kmp, LONGEST_SHORT, twice);
     printf("Rattle's speed to memmem's on a^255 in a^n: %.0f times (aim 10).\n", on_one_letter);
     return 0;
 }

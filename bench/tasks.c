@@ -11,12 +11,18 @@ const struct job jobs[] = {
     {"plan", plan_text, "PLUM-CAKE-77", "PLUM-CAKE-77", NULL, 0, 0},
     {"plan", plan_text, "-04-", "-04-", NULL, 0, 0},
     {"plan", plan_text, " rye 1235 g", " rye 1235 g", NULL, 0, 0},
+    {"plan", plan_text, "a title of 60", "Rueeblitorte nach Grossmutters Art mit Mandeln, Kirsch 26 cm", NULL, 0, 0},
+    {"plan, long lines", plan_of_long_lines, "1,000 of its bytes", NULL, NULL, 1000, 0},
+    {"plan, long lines", plan_of_long_lines, "4,000 of its bytes", NULL, NULL, 4000, 0},
     {"a^n", one_letter, "a", "a", NULL, 0, 1},
     {"a^n", one_letter, "a^255", NULL, one_letter, 255, 0},
     {"(ab^254)*", ab_text, "ab^254", NULL, ab_text, 255, 0},
     {"Fibonacci", fibonacci_word, "its first 233", NULL, fibonacci_word, 233, 0},
+    {"Fibonacci", fibonacci_word, "its first 4,000", NULL, fibonacci_word, 4000, 0},
     {"ruler", ruler_word, "its first 255", NULL, ruler_word, 255, 1},
     {"ruler, unknown byte", ruler_unknown, "ruler's first 255", NULL, ruler_word, 255, 0},
+    {"ruler, 12 letters", ruler_of_12, "its first 1,000", NULL, ruler_of_12, 1000, 0},
+    {"ruler, 12 letters", ruler_of_12, "its first 4,000", NULL, ruler_of_12, 4000, 0},
     {"random, 2 letters", random_2, "abbabaab", "abbabaab", NULL, 0, 1},
     {"random, 2 letters", random_2, "a^16", NULL, one_letter, 16, 0},
     {"random, 4 letters", random_4, "abcdabca", "abcdabca", NULL, 0, 0},
@@ -125,7 +131,7 @@ const struct shape shapes[SHAPES] = {
     {"ruler", ruler_word}, {"random, 2 letters", random_2}, {"random from 32 on", random_from_32},
 };
 
-const size_t lengths[LENGTHS] = {1, 2, 4, 8, 16, 32, 64, 128, 255};
+const size_t lengths[LENGTHS] = {1, 2, 4, 8, 16, 32, 64, 128, 255, 256, 1000, 4000};
 
 double preparing_time(preparer *prepare, const uint8_t *code, size_t m, size_t calls)
 {
@@ -136,6 +142,13 @@ double preparing_time(preparer *prepare, const uint8_t *code, size_t m, size_t c
         if (prepare(code, m, buffer, sizeof buffer).refusal != 0)
             stop("preparing was refused", "");
     return (cpu_now() - start) / (double)calls * 1e9;
+}
+
+int is_taken(preparer *prepare, const uint8_t *code, size_t m)
+{
+    uint8_t buffer[SHEET_ROOM];
+
+    return prepare(code, m, buffer, sizeof buffer).refusal == 0;
 }
 
 int same_sheets(preparer *first, preparer *second, const uint8_t *code, size_t m)

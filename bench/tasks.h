@@ -64,13 +64,16 @@ struct shape {
     text_maker *make;
 };
 
-enum { SHAPES = 6, LENGTHS = 9 };
+enum { SHAPES = 6, LENGTHS = 12 };
 
 extern const struct shape shapes[SHAPES];
 extern const size_t lengths[LENGTHS];
 
 /* Nanoseconds of one preparing, over so many calls. */
 double preparing_time(preparer *prepare, const uint8_t *code, size_t m, size_t calls);
+
+/* Whether a preparer takes a code: an earlier build refuses a long one. */
+int is_taken(preparer *prepare, const uint8_t *code, size_t m);
 
 /* Whether two preparers make the same sheet. */
 int same_sheets(preparer *first, preparer *second, const uint8_t *code, size_t m);

@@ -60,7 +60,8 @@ static int plan_line(char *line, size_t room, unsigned long number)
     return n;
 }
 
-void plan_text(uint8_t *text, size_t n)
+/* Plans, so many to a line; those of a line have a space between them. */
+static void plans(uint8_t *text, size_t n, unsigned long to_a_line)
 {
     char line[256];
     size_t at = 0;
@@ -69,9 +70,21 @@ void plan_text(uint8_t *text, size_t n)
     for (unsigned long number = 1; at < n; number++) {
         size_t length = (size_t)plan_line(line, sizeof line, number);
         size_t part = length < n - at ? length : n - at;
+        if (number % to_a_line != 0)
+            line[length - 1] = ' ';
         memcpy(text + at, line, part);
         at += part;
     }
+}
+
+void plan_text(uint8_t *text, size_t n)
+{
+    plans(text, n, 1);
+}
+
+void plan_of_long_lines(uint8_t *text, size_t n)
+{
+    plans(text, n, 128);
 }
 
 void one_letter(uint8_t *text, size_t n)
@@ -102,23 +115,28 @@ void fibonacci_word(uint8_t *text, size_t n)
     }
 }
 
-/* The ruler word over the letters a to g, with another byte where its letter would be a later one. */
-static void ruler(uint8_t *text, size_t n, uint8_t top)
+/* The ruler word over the letters from a on, so many, with another byte where its letter would be a later one. */
+static void ruler(uint8_t *text, size_t n, int letters, uint8_t top)
 {
     for (size_t i = 1; i <= n; i++) {
         int k = __builtin_ctzll(i);
-        text[i - 1] = k < 7 ? (uint8_t)('a' + k) : top;
+        text[i - 1] = k < letters ? (uint8_t)('a' + k) : top;
     }
 }
 
 void ruler_word(uint8_t *text, size_t n)
 {
-    ruler(text, n, 'h');
+    ruler(text, n, 7, 'h');
 }
 
 void ruler_unknown(uint8_t *text, size_t n)
 {
-    ruler(text, n, '!');
+    ruler(text, n, 7, '!');
+}
+
+void ruler_of_12(uint8_t *text, size_t n)
+{
+    ruler(text, n, 11, 'l');
 }
 
 static void random_text(uint8_t *text, size_t n, uint8_t first, unsigned letters)

@@ -25,7 +25,7 @@ static const char *in_words(int64_t refusal)
     case FINDER_NO_CODE:
         return "the code has no bytes";
     case FINDER_LONG_CODE:
-        return "the code has more than 255 bytes";
+        return "the code has more than 4000 bytes";
     case FINDER_SMALL_BUFFER:
         return "the buffer is too small for the code's sheet";
     case FINDER_CONTROL_BYTE:

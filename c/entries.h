@@ -9,9 +9,11 @@
 #include <stddef.h>
 #include <stdint.h>
 
+/* A code of at most 255 bytes has a short sheet, with numbers of one byte; a longer one a wide sheet, with numbers of two (docs/SHEET.md). */
 enum {
-    LONGEST_CODE = 255,
-    SHEET_ROOM = 767 /* 3m + 2 bytes for the longest code */
+    LONGEST_SHORT = 255, /* bytes of the longest code that has a short sheet */
+    LONGEST_CODE = 4000,
+    SHEET_ROOM = 20005 /* 5m + 5 bytes for the longest code */
 };
 
 /* What preparing answers: the sheet's length, or 0 and the number of the refusal. */

@@ -12,7 +12,7 @@
 
 static int64_t length_refusal(size_t m)
 {
-    return m == 0 ? 1 : m > 255 ? 2 : 0;
+    return m == 0 ? 1 : m > 4000 ? 2 : 0;
 }
 
 static int64_t code_refusal(const uint8_t *code, size_t m)
@@ -34,7 +34,7 @@ static int is_border(const uint8_t *code, size_t p, size_t b)
 }
 
 /* The targets of the backward arrows of state p, the largest first; how many. */
-static size_t plain_targets(const uint8_t *code, size_t m, size_t p, uint8_t *targets)
+static size_t plain_targets(const uint8_t *code, size_t m, size_t p, size_t *targets)
 {
     uint8_t seen[256] = {0};
     size_t b, count = 0;
@@ -44,40 +44,52 @@ static size_t plain_targets(const uint8_t *code, size_t m, size_t p, uint8_t *ta
     for (b = p; b-- > 0;) {
         if (is_border(code, p, b) && !seen[code[b]]) {
             seen[code[b]] = 1;
-            targets[count++] = (uint8_t)(b + 1);
+            targets[count++] = b + 1;
         }
     }
     return count;
 }
 
+/* The room that preparing a code of m bytes asks for: with numbers of one byte for at most 255, of two for more. */
+static size_t plain_room(size_t m)
+{
+    return m <= 255 ? 3 * m + 2 : 5 * m + 5;
+}
+
+/* Puts a number of the sheet of a code of m bytes there; answers the place behind it. */
+static uint8_t *put_number(uint8_t *place, size_t m, size_t number)
+{
+    if (m > 255)
+        *place++ = (uint8_t)(number / 256);
+    *place++ = (uint8_t)(number % 256);
+    return place;
+}
+
 /* The sheet of an accepted code; its length. */
 static size_t plain_sheet(const uint8_t *code, size_t m, uint8_t *sheet)
 {
-    uint8_t targets[255];
-    size_t p, count, end = 2 * m + 2;
+    static size_t targets[FINDER_LONGEST_CODE];
+    uint8_t *counts, *end;
+    size_t p, i, count, arrows = 0;
 
-    sheet[0] = (uint8_t)m;
-    memcpy(sheet + 1, code, m);
+    if (m > 255)
+        *sheet = 0;
+    counts = put_number(m > 255 ? sheet + 1 : sheet, m, m);
+    memcpy(counts, code, m);
+    counts += m;
+    end = counts + (m > 255 ? 2 : 1) * (m + 1);
     for (p = 0; p <= m; p++) {
         count = plain_targets(code, m, p, targets);
-        if (end + count > 3 * m + 2) {
+        arrows += count;
+        if (arrows > m) {
             printf("the plain implementation finds more than m backward arrows\n");
             exit(1);
         }
-        memcpy(sheet + end, targets, count);
-        end += count;
-        sheet[m + 1 + p] = (uint8_t)(end - (2 * m + 2));
+        for (i = 0; i < count; i++)
+            end = put_number(end, m, targets[i]);
+        counts = put_number(counts, m, arrows);
     }
-    return end;
-}
-
-static int64_t plain_prepare(const uint8_t *code, size_t m, uint8_t *buffer, size_t room)
-{
-    if (code_refusal(code, m) != 0)
-        return -code_refusal(code, m);
-    if (room < 3 * m + 2)
-        return -3;
-    return (int64_t)plain_sheet(code, m, buffer);
+    return (size_t)(end - sheet);
 }
 
 /* 1 + log2 m rounded down, or the number of different bytes if that is smaller. */
@@ -133,7 +145,7 @@ static void fill_random(uint8_t *bytes, size_t n, size_t first, size_t values)
 
 /* ---- Comparing one call */
 
-enum { GUARD = 64, LONG_CODE = 70000, LARGE_BUFFER = 1024 };
+enum { GUARD = 64, LONG_CODE = 70000, LARGE_BUFFER = FINDER_LONGEST_SHEET + 100 };
 
 static unsigned long calls_compared;
 
@@ -222,9 +234,19 @@ static void sample_prepare(const uint8_t *code, size_t m, size_t room, int64_t a
     compare_prepare(m, room, answer);
 }
 
+/* The sheet of a code of 256 equal bytes: one arrow, from the last state to itself. */
+static void sample_wide(const uint8_t *code, size_t room)
+{
+    uint8_t sheet[775] = {0, 1, 0};
+
+    memcpy(sheet + 3, code, 256);
+    memcpy(sheet + 771, "\0\1\1\0", 4);
+    sample_prepare(code, 256, room, 775, (const char *)sheet);
+}
+
 static void check_samples(void)
 {
-    uint8_t many[256];
+    uint8_t many[4001];
 
     memset(many, 'a', sizeof many);
     sample_prepare(bytes("a"), 1, 5, 5, "\x01\x61\x00\x01\x01");
@@ -232,12 +254,18 @@ static void check_samples(void)
     sample_prepare(bytes("aab"), 3, 11, 10, "\x03\x61\x61\x62\x00\x00\x01\x02\x02\x01");
     sample_prepare(bytes("abaab"), 5, 17, 16, "\x05\x61\x62\x61\x61\x62\x00\x01\x01\x02\x03\x04\x01\x02\x01\x03");
 
-    sample_prepare(bytes(""), 0, 767, -1, "");
+    sample_prepare(bytes("aab"), 3, FINDER_LONGEST_SHEET, 10, "\x03\x61\x61\x62\x00\x00\x01\x02\x02\x01");
+    sample_wide(many, 1285);
+    sample_wide(many, FINDER_LONGEST_SHEET);
+
+    sample_prepare(bytes(""), 0, FINDER_LONGEST_SHEET, -1, "");
     sample_prepare(bytes(""), 0, 0, -1, "");
-    sample_prepare(many, 256, 770, -2, "");
-    sample_prepare(many, 256, 0, -2, "");
+    sample_prepare(many, 4001, FINDER_LONGEST_SHEET, -2, "");
+    sample_prepare(many, 4001, 0, -2, "");
     sample_prepare(bytes("aab"), 3, 10, -3, "");
     sample_prepare(many, 255, 766, -3, "");
+    sample_prepare(many, 256, 1284, -3, "");
+    sample_prepare(many, 4000, FINDER_LONGEST_SHEET - 1, -3, "");
     sample_prepare(bytes("R12\r"), 4, 767, -13, "");
     sample_prepare(bytes("R12\n"), 4, 0, -13, "");
 
@@ -245,7 +273,9 @@ static void check_samples(void)
     compare_byte_ceiling(bytes("abac"), 4, 3);
     compare_byte_ceiling(bytes(""), 0, -1);
     compare_byte_ceiling(many, 255, 1);
-    compare_byte_ceiling(many, 256, -2);
+    compare_byte_ceiling(many, 256, 1);
+    compare_byte_ceiling(many, 4000, 1);
+    compare_byte_ceiling(many, 4001, -2);
     compare_byte_ceiling(bytes("R12\n"), 4, -13);
 
     compare_total_ceiling(2, 4, 6);
@@ -254,30 +284,41 @@ static void check_samples(void)
     compare_total_ceiling(2, 3, 4);
     compare_total_ceiling(255, 255, 509);
     compare_total_ceiling(255, 256, 510);
+    compare_total_ceiling(256, 256, 511);
+    compare_total_ceiling(4000, 4000, 7999);
+    compare_total_ceiling(4000, 4294967295u, 8588860848);
     compare_total_ceiling(0, 5, -1);
-    compare_total_ceiling(256, 5, -2);
+    compare_total_ceiling(4001, 5, -2);
 }
 
 /* ---- The plain implementation's answers */
 
-static void check_prepare(const uint8_t *code, size_t m, size_t room)
+/* Prepares a code in a buffer of so many bytes. Its sheet is given, of no bytes if it has none. */
+static void check_prepare(const uint8_t *code, size_t m, size_t room, const uint8_t *sheet, size_t length)
 {
+    int64_t expected = code_refusal(code, m) != 0 ? -code_refusal(code, m) : room < plain_room(m) ? -3 : (int64_t)length;
+
     lend_code(code, m);
     lend_buffer(room);
-    compare_prepare(m, room, plain_prepare(code, m, buffer_after + GUARD, room));
+    if (expected > 0)
+        memcpy(buffer_after + GUARD, sheet, length);
+    compare_prepare(m, room, expected);
 }
 
-/* Both functions that take a code, preparing with several buffers. */
+/* Both functions that take a code, preparing with several buffers: the largest is larger than any code of this layout needs. */
 static void check_code(const uint8_t *code, size_t m)
 {
+    static uint8_t sheet[FINDER_LONGEST_SHEET];
+    size_t length = code_refusal(code, m) == 0 ? plain_sheet(code, m, sheet) : 0;
+
     compare_byte_ceiling(code, m, plain_byte_ceiling(code, m));
-    check_prepare(code, m, 0);
+    check_prepare(code, m, 0, sheet, length);
     if (m <= FINDER_LONGEST_CODE) {
-        check_prepare(code, m, 3 * m + 1);
-        check_prepare(code, m, 3 * m + 2);
-        check_prepare(code, m, 3 * m + 2 + random_below(100));
+        check_prepare(code, m, plain_room(m) - 1, sheet, length);
+        check_prepare(code, m, plain_room(m), sheet, length);
+        check_prepare(code, m, plain_room(m) + random_below(100), sheet, length);
     }
-    check_prepare(code, m, LARGE_BUFFER);
+    check_prepare(code, m, m <= 255 ? 1024 : LARGE_BUFFER, sheet, length);
 }
 
 /* Every code of up to so many bytes over the first few of these values. */
@@ -326,45 +367,54 @@ static void fill_fibonacci(uint8_t *code, size_t m)
     }
 }
 
-/* Codes with many borders or none, of every length. */
-static void check_regular(void)
+/* A code of each shape, with many borders or none. */
+static void check_shapes(size_t m)
 {
-    uint8_t code[255];
-    size_t m, i, period;
+    static uint8_t code[FINDER_LONGEST_CODE];
+    size_t i, period;
 
-    for (m = 1; m <= 255; m++) {
-        memset(code, 'a', m); /* a..a */
-        check_code(code, m);
-        code[m - 1] = 'b'; /* a..ab */
-        check_code(code, m);
-        memset(code, 'b', m); /* ab..b */
-        code[0] = 'a';
-        check_code(code, m);
+    memset(code, 'a', m); /* a..a */
+    check_code(code, m);
+    code[m - 1] = 'b'; /* a..ab */
+    check_code(code, m);
+    memset(code, 'b', m); /* ab..b */
+    code[0] = 'a';
+    check_code(code, m);
+    for (i = 0; i < m; i++)
+        code[i] = (uint8_t)(32 + i % 224); /* all different, as long as there are so many */
+    check_code(code, m);
+    for (i = 0; i < m; i++)
+        code[i] = (uint8_t)('a' + twos(i + 1)); /* the ruler: abacabad.. */
+    check_code(code, m);
+    for (period = 2; period <= 5; period++) {
         for (i = 0; i < m; i++)
-            code[i] = (uint8_t)(32 + i % 224); /* all different, as long as there are so many */
+            code[i] = (uint8_t)('a' + (i % period == 0)); /* baabaa.. */
         check_code(code, m);
-        for (i = 0; i < m; i++)
-            code[i] = (uint8_t)('a' + twos(i + 1)); /* the ruler: abacabad.. */
-        check_code(code, m);
-        for (period = 2; period <= 5; period++) {
-            for (i = 0; i < m; i++)
-                code[i] = (uint8_t)('a' + (i % period == 0)); /* baabaa.. */
-            check_code(code, m);
-        }
     }
-    fill_fibonacci(code, 255);
-    for (m = 1; m <= 255; m++)
-        check_code(code, m);
+    fill_fibonacci(code, m);
+    check_code(code, m);
 }
 
-/* Random codes over few or many values, and random words repeated, with one byte changed or none, and with one below 32. */
-static void check_random(int count)
+/* Every length up to where the sheets have been wide for a while, and some up to the longest. */
+static void check_regular(void)
 {
-    uint8_t code[255];
+    static const size_t length[] = {300, 511, 512, 513, 768, 1000, FINDER_LONGEST_CODE};
+    size_t m, i;
+
+    for (m = 1; m <= 260; m++)
+        check_shapes(m);
+    for (i = 0; i < sizeof length / sizeof *length; i++)
+        check_shapes(length[i]);
+}
+
+/* Random codes of up to so many bytes over few or many values, and random words repeated, with one byte changed or none, and with one below 32. */
+static void check_random(int count, size_t longest)
+{
+    static uint8_t code[FINDER_LONGEST_CODE];
     size_t m, i, period;
 
     while (count-- > 0) {
-        m = 1 + random_below(255);
+        m = 1 + random_below(longest);
         fill_random(code, m, 32, 1 + random_below(count % 2 ? 4 : 224));
         check_code(code, m);
         period = 1 + random_below(m);
@@ -397,7 +447,7 @@ static void check_every_byte(void)
 /* Codes that are too long, also by lengths whose last bytes are those of a good one. They have bytes below 32 too, and are refused as too long. */
 static void check_too_long(void)
 {
-    static const size_t length[] = {256, 257, 258, 300, 511, 512, 1000, 65535, 65536, 65537, 65541, LONG_CODE};
+    static const size_t length[] = {4001, 4002, 4095, 4096, 4351, 5000, 8192, 65535, 65536, 65537, 65541, 65792, 69536, LONG_CODE};
     static uint8_t code[LONG_CODE];
     size_t i;
 
@@ -415,7 +465,7 @@ static void check_total_ceilings(void)
     uint32_t m, n;
     size_t i, j;
 
-    for (m = 0; m <= 300; m++) {
+    for (m = 0; m <= 4010; m = m == 300 ? 3990 : m + 1) {
         for (n = 0; n <= 600; n++)
             compare_total_ceiling(m, n, plain_total_ceiling(m, n));
         for (i = 0; i < limits; i++)
@@ -437,7 +487,9 @@ int main(void)
     check_all_short(3, 7);
     check_all_short(4, 6);
     check_regular();
-    check_random(1000);
+    check_random(1000, 255);
+    check_random(50, 1000);
+    check_random(2, FINDER_LONGEST_CODE);
     check_every_byte();
     check_too_long();
     check_total_ceilings();

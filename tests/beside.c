@@ -1,77 +1,20 @@
 /* Holds preparing and feeding, as C calls them, to plain.c: to a naive search and to the machine of document 01 for a text in pieces, and to the
    document's definitions for any watch and any sheet. Codes and texts are those of the document, all short ones over a few letters, those in which
-   each byte occurs, and long ones of a fixed generator. The first difference ends the test with exit status 1. */
+   each byte occurs, and long ones of a fixed generator; wide.c has those of more than 255 bytes. The first difference ends the test with exit status 1. */
 #define _DEFAULT_SOURCE /* for MAP_ANONYMOUS */
 #include <inttypes.h>
 #include <stdio.h>
 #include <string.h>
 #include <sys/mman.h>
 
-#include "calls.h"
+#include "cuttings.h"
+#include "odd.h"
+#include "wide.h"
 
 enum {
     LONG_TEXT = 600, /* bytes */
     LONG_CODES = 256 /* how many */
 };
-
-/* ---- Cuttings */
-
-static void cut_at(size_t end)
-{
-    if (cutting.pieces == PIECES)
-        differ("a cutting of too many pieces");
-    cutting.end[cutting.pieces++] = end;
-}
-
-/* Runs the text with a first piece and others of so many bytes each. */
-static void run_sizes(size_t first, size_t size, size_t room, int refused)
-{
-    size_t end = first < n ? first : n;
-
-    cutting.pieces = 0;
-    cutting.room = room;
-    cutting.refused = refused;
-    for (cut_at(end); end < n; cut_at(end))
-        end = size < n - end ? end + size : n;
-    run();
-}
-
-/* Runs the text cut at the places of the ones among a number's binary digits, with an empty piece before each piece or not. */
-static void run_cut(unsigned digits, int empty, size_t room, int refused)
-{
-    size_t end, last = 0;
-
-    cutting.pieces = 0;
-    cutting.room = room;
-    cutting.refused = refused;
-    for (end = 1; end <= n; end++) {
-        if (end < n && !(digits >> (end - 1) & 1))
-            continue;
-        if (empty)
-            cut_at(last);
-        cut_at(end);
-        last = end;
-    }
-    if (empty || n == 0)
-        cut_at(n);
-    run();
-}
-
-/* The text in every cutting, with lists of 1 to 3 places; in pieces of one byte also with empty pieces and refused calls between. */
-static void run_every_cutting(void)
-{
-    unsigned cuttings = n == 0 ? 1 : 1u << (n - 1);
-    unsigned digits;
-    size_t room;
-
-    use_text();
-    for (room = 1; room <= 3; room++) {
-        cutting.behind = room == 2;
-        for (digits = 0; digits < cuttings; digits++)
-            run_cut(digits, 0, room, 0);
-        run_cut(cuttings - 1, 1, room, room == 1);
-    }
-}
 
 /* ---- The document's codes and texts, and all short ones */
 
@@ -158,23 +101,6 @@ static void put_every_byte(void)
     put_code();
 }
 
-static void run_some_sizes(void)
-{
-    use_text();
-    cutting.behind = 0;
-    run_sizes(n, 1, LIST, 0);
-    run_sizes(0, 1, 1, 1);
-    cutting.behind = 1;
-    run_sizes(3, 7, 2, 0);
-    run_sizes(100, 37, 1, 1);
-}
-
-/* A byte of a code: for one below 32 the one 32 above it. */
-static uint8_t from_32(size_t byte)
-{
-    return (uint8_t)(byte % 256 < 32 ? byte + 32 : byte);
-}
-
 /* A byte as a code, twice, before and behind its neighbour and the most distant one. */
 static void try_every_byte(void)
 {
@@ -195,23 +121,7 @@ static void try_every_byte(void)
     end_group();
 }
 
-/* ---- Long codes, of a fixed generator */
-
-static uint64_t random_state;
-
-static size_t random_below(size_t count)
-{
-    random_state ^= random_state << 13;
-    random_state ^= random_state >> 7;
-    random_state ^= random_state << 17;
-    return (size_t)(random_state % count);
-}
-
-/* One of so many letters, from the least byte to the greatest. */
-static uint8_t random_letter(size_t letters)
-{
-    return (uint8_t)(random_below(letters) * 255 / (letters > 4 ? letters - 1 : 3));
-}
+/* ---- Long codes with short sheets, of a fixed generator */
 
 /* The long code of a number: 3 to 255 bytes of 1 to 4 letters, or of all from 32 on, with a period of 1 to 19; in every other code the last byte is 255.
    Answers how many letters. */
@@ -221,7 +131,7 @@ static size_t use_long_code(unsigned number)
     size_t period = 1 + number % 19;
     size_t i;
 
-    random_state = 88172645463325252u + number;
+    seed_random(number);
     m = 255 - number % 253;
     for (i = 0; i < m; i++)
         code[i] = i < period ? from_32(random_letter(letters)) : code[i - period];
@@ -231,42 +141,13 @@ static size_t use_long_code(unsigned number)
     return letters;
 }
 
-/* The code again and again, with a random letter or a new start about once in a code's length; every other letter may be a control byte. */
-static void put_long_text(size_t letters)
-{
-    size_t i, j = 0;
-
-    n = LONG_TEXT;
-    for (i = 0; i < n; i++) {
-        size_t chance = random_below(2 * m);
-        text[i] = chance > 0 ? code[j] : i % 2 == 0 ? random_letter(letters) : from_32(random_letter(letters));
-        j = chance == 1 || j + 1 == m ? 0 : j + 1;
-    }
-}
-
-/* Pieces of up to so many bytes, empty ones too. */
-static void run_random(size_t longest, size_t room, int refused)
-{
-    size_t end = 0;
-
-    cutting.pieces = 0;
-    cutting.room = room;
-    cutting.refused = refused;
-    while (end < n) {
-        size_t size = random_below(longest + 1);
-        end = size < n - end ? end + size : n;
-        cut_at(end);
-    }
-    run();
-}
-
 static void try_long(void)
 {
     unsigned number;
 
     begin_group("long codes in texts that are much like them");
     for (number = 0; number < LONG_CODES; number++) {
-        put_long_text(use_long_code(number));
+        put_text_like_code(use_long_code(number), LONG_TEXT);
         run_some_sizes();
         run_sizes(0, 1, 1, 0);
         run_random(3, 1, 0);
@@ -280,7 +161,7 @@ static void try_long(void)
 
 static void try_refused_codes(void)
 {
-    static const size_t rooms[] = {0, 1, 2, 5, 766, 767};
+    static const size_t rooms[] = {0, 1, 2, 5, 766, 767, SHEET_ROOM - 1, SHEET_ROOM};
     size_t k;
 
     begin_group("no code, too long a code, and buffers of every size");
@@ -293,34 +174,13 @@ static void try_refused_codes(void)
         memset(code, 'a', sizeof code);
         compare_prepare(rooms[k]);
     }
-    for (m = 1; m <= LONGEST_CODE; m += 127)
-        for (k = 0; k <= SHEET_ROOM; k++)
+    for (m = 1; m <= LONGEST_SHORT; m += 127)
+        for (k = 0; k <= 3 * LONGEST_SHORT + 2; k++)
             compare_prepare(k);
     end_group();
 }
 
 /* ---- Wrong sheets */
-
-static uint64_t taken_as_sheets;
-
-/* Feeds the code with a buffer as its sheet. Answers the refusal. */
-static uint32_t try_buffer(const uint8_t *buffer, size_t length)
-{
-    struct call c;
-    uint32_t refusal;
-
-    c.sheet = buffer;
-    c.sheet_length = length;
-    c.watch = opened;
-    c.piece = code;
-    c.piece_length = m;
-    c.room = 1;
-    refusal = compare_plain(&c);
-    if (refusal != 0 && refusal != 4)
-        differ("a wrong sheet is refused with another number");
-    taken_as_sheets += refusal == 0;
-    return refusal;
-}
 
 /* Every byte at every index of short codes: with one below 32 the code is refused with 13 and its sheet with 4; all others are taken. */
 static void try_control_bytes(void)
@@ -344,24 +204,6 @@ static void try_control_bytes(void)
     end_group();
 }
 
-/* The sheet with each of its bytes as it would be with some bits changed, and each start of it. */
-static void spoil_sheet(const uint8_t *changes, size_t count)
-{
-    uint8_t wrong[SHEET_ROOM];
-    size_t i, k;
-
-    memcpy(wrong, sheet, sizeof wrong);
-    for (i = 0; i < sheet_length; i++) {
-        for (k = 0; k < count; k++) {
-            wrong[i] = (uint8_t)(sheet[i] ^ changes[k]);
-            try_buffer(wrong, sheet_length);
-        }
-        wrong[i] = sheet[i];
-    }
-    for (i = 0; i < sheet_length; i++)
-        try_buffer(sheet, i);
-}
-
 /* Short codes with each byte of the sheet in every other value, long ones in some. */
 static void try_wrong_sheets(void)
 {
@@ -376,11 +218,13 @@ static void try_wrong_sheets(void)
     for (i = 1; i < words(2, 5); i++) {
         m = spell(i, "ab", 2, code);
         use_code();
-        spoil_sheet(all, sizeof all);
+        spoil_bytes(0, sheet_length, 1, all, sizeof all);
+        cut_off(0, sheet_length);
     }
     for (i = 0; i < 64; i += 9) {
         use_long_code(i);
-        spoil_sheet(some, sizeof some);
+        spoil_bytes(0, sheet_length, 1, some, sizeof some);
+        cut_off(0, sheet_length);
     }
     if (taken_as_sheets == 0)
         differ("no changed sheet is that of another code: the test tries too little");
@@ -389,52 +233,6 @@ static void try_wrong_sheets(void)
 }
 
 /* ---- Any watch */
-
-/* A piece with lists of 0 to 2 places, and with the sheet and without its first byte, which is no sheet. */
-static void try_piece(const struct fed *x, const uint8_t *piece, size_t length)
-{
-    struct call c;
-
-    c.sheet_length = sheet_length;
-    c.watch = *x;
-    c.piece = piece;
-    c.piece_length = length;
-    for (c.room = 0; c.room <= 2; c.room++) {
-        c.sheet = sheet;
-        compare_plain(&c);
-        c.sheet = sheet + 1;
-        compare_plain(&c);
-    }
-}
-
-/* A watch with pieces of 0 to 3 bytes from the code's end, and with one that is a byte too long. */
-static void try_watch(uint32_t state, uint32_t taken, uint32_t hits, uint64_t compares)
-{
-    struct fed x = opened;
-    size_t length;
-
-    x.state = state;
-    x.taken = taken;
-    x.hits = hits;
-    x.compares = compares;
-    for (length = 0; length <= 3 && length <= m; length++)
-        try_piece(&x, code + m - length, length);
-    try_piece(&x, vast_piece, VAST - taken);
-}
-
-/* Watches at the limits of being fit, and of the longest text. */
-static void try_watches_of(uint32_t taken)
-{
-    const uint32_t states[] = {0, 1, (uint32_t)m - 1, (uint32_t)m, (uint32_t)m + 1, taken, taken + 1, 4294967295u};
-    const uint32_t hits[] = {0, taken, taken + 1};
-    const uint64_t compares[] = {0, 2 * (uint64_t)taken, 2 * (uint64_t)taken + 1, 18446744073709551615u};
-    size_t i, j, k;
-
-    for (i = 0; i < sizeof states / sizeof *states; i++)
-        for (j = 0; j < sizeof hits / sizeof *hits; j++)
-            for (k = 0; k < sizeof compares / sizeof *compares; k++)
-                try_watch(states[i], taken, hits[j], compares[k]);
-}
 
 static void try_watches(void)
 {
@@ -472,5 +270,6 @@ int main(void)
     try_control_bytes();
     try_wrong_sheets();
     try_watches();
+    try_wide();
     return 0;
 }

@@ -11,7 +11,7 @@ static const uint32_t unwritten = 4000000000u; /* a number of a lent list before
 static const char *group;
 static uint64_t compared;
 
-uint8_t code[LONGEST_CODE + 1], sheet[SHEET_ROOM + GUARD], text[LONGEST_TEXT_HERE];
+uint8_t code[LONGEST_CODE + 1], sheet[SHEET_ROOM + BEHIND], text[LONGEST_TEXT_HERE];
 size_t m, sheet_length, n;
 const uint8_t *vast_piece;
 struct cutting cutting;
@@ -166,8 +166,8 @@ uint32_t compare_plain(const struct call *c)
 void use_code(void)
 {
     cutting.pieces = 0;
-    compare_prepare(3 * m + 1);
-    compare_prepare(3 * m + 2);
+    compare_prepare(plain_room(m) - 1);
+    compare_prepare(plain_room(m));
     compare_prepare(SHEET_ROOM);
     memcpy(sheet_before, sheet, sizeof sheet);
 }
@@ -213,11 +213,11 @@ static struct call unfit(struct call c, int way)
    become too long. */
 static void refuse_before(const struct call *c)
 {
-    uint8_t wrong_sheet[SHEET_ROOM];
+    uint8_t wrong_sheet[sizeof sheet];
     struct call wrong = *c;
     int way;
 
-    memcpy(wrong_sheet, sheet, SHEET_ROOM);
+    memcpy(wrong_sheet, sheet, c->sheet_length);
     wrong_sheet[sheet_length - 1] ^= 1;
     wrong.sheet = wrong_sheet;
     refuse(4, &wrong);
@@ -243,7 +243,7 @@ static struct fed call_on(const struct fed *x, size_t end)
     struct call c;
 
     c.sheet = sheet;
-    c.sheet_length = cutting.behind ? SHEET_ROOM : sheet_length;
+    c.sheet_length = cutting.behind ? sheet_length + BEHIND : sheet_length;
     c.watch = *x;
     c.piece = text + from;
     c.piece_length = end - from;
@@ -266,6 +266,6 @@ void run(void)
         while (x.full);
     if (x.taken != n || x.hits != machine.found)
         differ("the run does not come to the text's end with all places");
-    if (memcmp(sheet, sheet_before, sizeof sheet) != 0 || memcmp(text, text_before, n) != 0)
+    if (memcmp(sheet, sheet_before, sheet_length + BEHIND) != 0 || memcmp(text, text_before, n) != 0)
         differ("a run changes its sheet or its text");
 }

@@ -5,13 +5,14 @@
 #include "plain.h"
 
 enum {
-    GUARD = 8,    /* elements behind what is lent */
-    LIST = 8,     /* places in the longest list */
-    PIECES = 2048 /* in the longest cutting */
+    GUARD = 8,     /* places behind a list that is lent */
+    BEHIND = 512,  /* bytes behind a sheet, which may be lent with it */
+    LIST = 8,      /* places in the longest list */
+    PIECES = 16384 /* in the longest cutting */
 };
 
 /* The code and its sheet, with bytes behind it; the text. */
-extern uint8_t code[LONGEST_CODE + 1], sheet[SHEET_ROOM + GUARD], text[LONGEST_TEXT_HERE];
+extern uint8_t code[LONGEST_CODE + 1], sheet[SHEET_ROOM + BEHIND], text[LONGEST_TEXT_HERE];
 extern size_t m, sheet_length, n;
 
 /* So many bytes are too long a piece for any watch. They are lent, and never read. */

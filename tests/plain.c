@@ -65,19 +65,60 @@ static size_t follow(const uint8_t *code, size_t m, size_t p, uint8_t byte, uint
 
 /* ---- Preparing */
 
-size_t plain_sheet(const uint8_t *code, size_t m, uint8_t *sheet)
+size_t plain_room(size_t m)
 {
-    size_t p, b, end = 2 * m + 2;
+    return m <= LONGEST_SHORT ? 3 * m + 2 : 5 * m + 5;
+}
 
-    sheet[0] = (uint8_t)m;
-    memcpy(sheet + 1, code, m);
+/* A number in 1 byte or in 2, the high one first. */
+static void put_number(uint8_t *bytes, size_t width, size_t number)
+{
+    if (width == 2)
+        *bytes++ = (uint8_t)(number / 256);
+    *bytes = (uint8_t)(number % 256);
+}
+
+size_t plain_layout(size_t width, const uint8_t *code, size_t m, uint8_t *sheet)
+{
+    size_t front = width == 1 ? 1 : 3;
+    uint8_t *counts = sheet + front + m;
+    uint8_t *end = counts + width * (m + 1);
+    size_t p, b, arrows = 0;
+
+    sheet[0] = 0;
+    put_number(sheet + front - width, width, m);
+    memcpy(sheet + front, code, m);
     for (p = 0; p <= m; p++) {
         for (b = p; b-- > 0;)
-            if (has_backward(code, m, p, b))
-                sheet[end++] = (uint8_t)(b + 1);
-        sheet[m + 1 + p] = (uint8_t)(end - (2 * m + 2));
+            if (has_backward(code, m, p, b)) {
+                put_number(end, width, b + 1);
+                end += width;
+                arrows++;
+            }
+        put_number(counts + width * p, width, arrows);
     }
-    return end;
+    return (size_t)(end - sheet);
+}
+
+size_t plain_sheet(const uint8_t *code, size_t m, uint8_t *sheet)
+{
+    return plain_layout(m <= LONGEST_SHORT ? 1 : 2, code, m, sheet);
+}
+
+/* The sheet of a code, and its length. The last one of each layout is kept: most calls name the same code as the one before. */
+static const uint8_t *kept_sheet(const uint8_t *code, size_t m, size_t *length)
+{
+    static uint8_t sheets[2][SHEET_ROOM], codes[2][LONGEST_CODE];
+    static size_t lengths[2], sizes[2];
+    int wide = m > LONGEST_SHORT;
+
+    if (sizes[wide] != m || memcmp(codes[wide], code, m) != 0) {
+        sizes[wide] = m;
+        memcpy(codes[wide], code, m);
+        lengths[wide] = plain_sheet(code, m, sheets[wide]);
+    }
+    *length = lengths[wide];
+    return sheets[wide];
 }
 
 /* Whether a code has a byte below 32. */
@@ -94,27 +135,42 @@ static int has_control(const uint8_t *code, size_t m)
 struct prepared plain_prepare(const uint8_t *code, size_t m, uint8_t *buffer, size_t room)
 {
     struct prepared answer = {0, 0};
+    const uint8_t *sheet;
+    size_t length;
 
-    answer.refusal = m == 0 ? 1 : m > 255 ? 2 : has_control(code, m) ? 13 : room < 3 * m + 2 ? 3 : 0;
-    if (answer.refusal == 0)
-        answer.length = plain_sheet(code, m, buffer);
+    answer.refusal = m == 0 ? 1 : m > 4000 ? 2 : has_control(code, m) ? 13 : room < plain_room(m) ? 3 : 0;
+    if (answer.refusal == 0) {
+        sheet = kept_sheet(code, m, &length);
+        memcpy(buffer, sheet, length);
+        answer.length = length;
+    }
     return answer;
 }
 
 /* ---- Feeding */
 
-/* Whether a buffer begins with the sheet of the code that it names, and that has no control byte. The last sheet is kept: most calls name the same
-   code as the one before. */
+/* The code that a buffer names: of so many bytes, and where it stands. Of no bytes if the buffer names none that has such a sheet, or ends in it. */
+static size_t named(const uint8_t *buffer, size_t length, const uint8_t **code)
+{
+    size_t front = length > 0 && buffer[0] > 0 ? 1 : 3;
+    size_t m = length < front ? 0 : front == 1 ? buffer[0] : 256 * (size_t)buffer[1] + buffer[2];
+
+    *code = buffer + front;
+    if (front == 3 && (m < 256 || m > 4000))
+        return 0;
+    return length < front + m ? 0 : m;
+}
+
+/* Whether a buffer begins with the sheet of the code that it names, and that has no control byte. */
 static int begins_with_sheet(const uint8_t *buffer, size_t length)
 {
-    static uint8_t sheet[SHEET_ROOM];
-    static size_t end;
-    size_t m = length == 0 ? 0 : buffer[0];
+    const uint8_t *code, *sheet;
+    size_t m = named(buffer, length, &code);
+    size_t end;
 
-    if (m == 0 || length < 1 + m || has_control(buffer + 1, m))
+    if (m == 0 || has_control(code, m))
         return 0;
-    if (memcmp(sheet, buffer, 1 + m) != 0)
-        end = plain_sheet(buffer + 1, m, sheet);
+    sheet = kept_sheet(code, m, &end);
     return end <= length && memcmp(buffer, sheet, end) == 0;
 }
 
@@ -124,11 +180,11 @@ static int is_unfit(const struct fed *x, size_t m)
     return x->state > m || x->state > x->taken || x->hits > x->taken || x->compares > 2 * (uint64_t)x->taken;
 }
 
-static uint32_t feed_refusal(const uint8_t *sheet, size_t sheet_length, const struct fed *x, size_t piece_length, size_t room)
+static uint32_t feed_refusal(const uint8_t *sheet, size_t sheet_length, size_t m, const struct fed *x, size_t piece_length, size_t room)
 {
     if (!begins_with_sheet(sheet, sheet_length))
         return 4;
-    if (is_unfit(x, sheet[0]))
+    if (is_unfit(x, m))
         return 5;
     if (room == 0)
         return 6;
@@ -139,19 +195,21 @@ struct fed plain_feed(const uint8_t *sheet, size_t sheet_length, uint32_t state,
                       const uint8_t *piece, size_t piece_length, uint32_t *places, size_t room)
 {
     struct fed x = {0, 0, 0, 0, 0, 0, 0, 0};
+    const uint8_t *code;
+    size_t m = named(sheet, sheet_length, &code);
 
     x.state = state;
     x.taken = taken;
     x.hits = hits;
     x.compares = compares;
-    x.refusal = feed_refusal(sheet, sheet_length, &x, piece_length, room);
+    x.refusal = feed_refusal(sheet, sheet_length, m, &x, piece_length, room);
     if (x.refusal != 0)
         return x;
     while (x.read < piece_length && x.written < room) {
-        x.state = (uint32_t)follow(sheet + 1, sheet[0], x.state, piece[x.read++], &x.compares);
+        x.state = (uint32_t)follow(code, m, x.state, piece[x.read++], &x.compares);
         x.taken++;
-        if (x.state == sheet[0]) {
-            places[x.written++] = x.taken - sheet[0];
+        if (x.state == m) {
+            places[x.written++] = x.taken - (uint32_t)m;
             x.hits++;
         }
     }

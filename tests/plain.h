@@ -4,14 +4,20 @@
 
 #include "../c/entries.h"
 
-enum { LONGEST_TEXT_HERE = 1024 };
+enum { LONGEST_TEXT_HERE = 12288 };
 
 /* Preparing, and one feeding of any watch: it follows the arrows. */
 preparer plain_prepare;
 feeder plain_feed;
 
-/* The sheet of any code of 1 to 255 bytes, accepted or not; its length. */
+/* The room that is enough for the sheet of any code of m bytes. */
+size_t plain_room(size_t m);
+
+/* The sheet of any code of 1 to 4,000 bytes, accepted or not; its length. */
 size_t plain_sheet(const uint8_t *code, size_t m, uint8_t *sheet);
+
+/* The same as it would be with numbers of 1 byte or of 2, whatever the code's length; a number that has no room in 1 byte without its high one. */
+size_t plain_layout(size_t width, const uint8_t *code, size_t m, uint8_t *sheet);
 
 /* A naive search for a code in a text, and what the document's machine does with that text: the same however the text is cut, so it is worked out
    once. Index n stands for the first n bytes of the text. */

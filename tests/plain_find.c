@@ -59,7 +59,7 @@ static int read_first_line(void)
     m = (size_t)(bracket - code);
     text = feed + 1;
     n = input_length - (size_t)(text - input);
-    return m == 0 ? 1 : m > 255 ? 2 : has_control() ? 13 : 0;
+    return m == 0 ? 1 : m > 4000 ? 2 : has_control() ? 13 : 0;
 }
 
 /* Whether the first `end` bytes of the text end with the first p bytes of the code. */

@@ -1,6 +1,6 @@
 -- Laws of refusals: what a list without one tells, what an answer is, and what a code without a refusal is. A list of refusals computes once its tests are
 -- known: one rewriting for each test decides it. Assumes nothing.
-use mathlib.Core.Path.{_≡_, refl, sym, ap, _∙_}
+use mathlib.Core.Path.{_≡_, refl, ap, _∙_}
 use mathlib.Core.Bool.{Bool, true, false, not}
 use mathlib.Core.List.{List, [], _∷_}
 use mathlib.Core.Logic.{_≢_}
@@ -112,7 +112,7 @@ none-accepted w e = eq-eqb (code-refusal w) 0 e
 pub accepted-bounds : (w : List ℕ) → accepted w ≡ true → (1 ≤ length w) × (length w ≤ longest-code)
 accepted-bounds w e = code-bounds w (accepted-none w e)
 
--- of 1 to 255 bytes a code is accepted unless it has a control byte
+-- of 1 to 4,000 bytes a code is accepted unless it has a control byte
 pub accepted-within : (w : List ℕ) → 1 ≤ length w → length w ≤ longest-code → accepted w ≡ not (has-control w)
 unfolding accepted
 accepted-within w some few =

@@ -12,7 +12,7 @@ length-refusal l m = first-refusal (refused-if 1 (eqb m 0) ∷ refused-if 2 (ltb
 
 -- the longest code that is accepted
 abbrev pub longest-code : ℕ
-longest-code = 255
+longest-code = 4000
 
 -- whether a code has a control byte, one below 32
 unfoldable pub has-control : (code : List ℕ) → Bool

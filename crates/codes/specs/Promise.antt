@@ -14,7 +14,7 @@ use Rattle.codes.specs.Codes.{longest-code, accepted}
 unfoldable pub Answers-told : Type 0
 Answers-told = (n v : ℕ) → (answer-refusal (answered n v) ≡ n) × (answer-value (answered n v) ≡ cond (eqb n 0) v 0)
 
--- the accepted codes are those of 1 to 255 bytes, none of them below 32
+-- the accepted codes are those of 1 to 4,000 bytes, none of them below 32
 unfoldable pub Codes-accepted : Type 0
 Codes-accepted =
     (w : List ℕ) → (accepted w ≡ true) ↔ ((1 ≤ length w) × (length w ≤ longest-code) × Every (λ v. 32 ≤ v) w)

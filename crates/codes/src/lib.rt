@@ -7,7 +7,7 @@ ghost use Rattle.codes.specs.Codes.{length-refusal, has-control, code-re
 ghost use Rattle.codes.specs.Entry.{byte-answer, total-answer};
 
 // The longest code that is accepted.
-pub const LONGEST: u32 = 255;
+pub const LONGEST: u32 = 4000;
 
 // What an entry point answers: a number, or the number of its refusal.
 pub enum Answer {

@@ -14,6 +14,7 @@ use Rattle.sheets.specs.Promise.{Sheet-sized}
 use Rattle.codes.specs.Entry.{byte-answer, total-answer}
 use Rattle.sheets.specs.Entry.{prepare-refusal, prepare-answer}
 use Rattle.codes.proofs.Refusals.{none-of, code-bounds}
+use Rattle.sheets.proofs.Widths.{room-bound}
 use Rattle.sheets.proofs.Sheets.{sheet-sized}
 
 -- a limit of the value where there is no refusal is one of the answer
@@ -24,8 +25,8 @@ answer-below (suc n) v limit below some = some
 
 -- THE VALUES: a sheet has room in that of the longest code, a byte ceiling is at most the code's length, a total ceiling at most twice the bytes
 sheet-limit : (w : List ℕ) → length w ≤ longest-code → length (sheet w) ≤ longest-sheet
-unfolding Sheet-sized sheet-room
-sheet-limit w few = omega (arith, sheet-sized w .1)
+unfolding Sheet-sized
+sheet-limit w few = omega (arith, sheet-sized w .2, room-bound (length w) few)
 
 total-limit : (m n : ℕ) → total-ceiling m n ≤ 2 * n
 unfolding total-ceiling

@@ -14,6 +14,7 @@ use Rattle.runs.proofs.Over.{over-nil, over-append}
 use Rattle.codes.specs.Refusals.{refused-if, first-refusal}
 use Rattle.codes.specs.Codes.{accepted}
 use Rattle.sheets.specs.Sheet.{sheet}
+use Rattle.codes.proofs.Refusals.{accepted-bounds}
 use Rattle.sheets.proofs.Sheets.{sheet-named}
 use Rattle.finder.specs.Feed.{opened, feed}
 use Rattle.finder.specs.Machine.{found-after, call-refusal}
@@ -102,7 +103,7 @@ module _ (w rest : List ℕ) (good : accepted w ≡ true) where
     unfolding text-output piece-form unless-refused
     piece-printed h fits cs =
         let r = piece-whole h in
-        rw (refusal-is, call-taken c (length bs) fits, sheet-named, r .0, r .1)
+        rw (refusal-is, call-taken c (length bs) fits, sheet-named w rest (accepted-bounds w good .0), r .0, r .1)
         (end-or-more (is-last c) (place-forms (places-after bs c)) (end-of (watch-of w (bs ++ c))) (text-output buffer cs (watch-of w (bs ++ c))))
 
   -- places printed for one text and then for another

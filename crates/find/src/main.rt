@@ -26,7 +26,7 @@ const PRINTED: usize = 16 * PIECE + 75;
 const KEPT: usize = codes::LONGEST as usize + 1;
 
 // Room for the sheet of the longest code.
-const SHEET: usize = 3 * (codes::LONGEST as usize) + 2;
+const SHEET: usize = 5 * (codes::LONGEST as usize) + 5;
 
 // Reads until a buffer is full or the input ends, whatever each read brings.
 fn read_full(came: &mut u64, buffer: &mut [u8]) -> Got

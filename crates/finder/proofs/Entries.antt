@@ -74,11 +74,14 @@ runs-grow f bs = (
 )
 
 module _ (w rest : List ℕ) (good : accepted w ≡ true) where
+  code-named : named (sheet w ++ rest) ≡ w
+  code-named = sheet-named w rest (accepted-bounds w good .0)
+
   -- 4 and 5 never come up
   pub same-refusal : (c : Call) (ts : List ℕ) →
       feed-refusal (sheet w ++ rest) (watch-of w ts) (length (c .piece)) (c .room) ≡ call-refusal c (length ts)
   unfolding feed-refusal call-refusal first-refusal refused-if
-  same-refusal c ts = rw (sheet-begins w rest good, sheet-named, counted-of w ts (accepted-bounds w good .0) .fits)
+  same-refusal c ts = rw (sheet-begins w rest good, code-named, counted-of w ts (accepted-bounds w good .0) .fits)
 
   abbrev answer : (text : List ℕ) → Lent → Feed-call
   answer ts l = feed-call (sheet w ++ rest) (watch-of w ts) l
@@ -90,7 +93,7 @@ module _ (w rest : List ℕ) (good : accepted w ≡ true) where
       let n = call-refusal (plain l) (length ts) in
       As-fed n (unless-refused n (feed w (l .piece) (length (l .list)) (watch-of w ts)) (watch-of w ts)) (answer ts l)
   unfolding feed-call
-  call-is ts l = rw (same-refusal (plain l) ts, sheet-named) (as-fed (call-refusal (plain l) (length ts)) w (watch-of w ts) l)
+  call-is ts l = rw (same-refusal (plain l) ts, code-named) (as-fed (call-refusal (plain l) (length ts)) w (watch-of w ts) l)
 
   reads : (ts : List ℕ) (l : Lent) → Watch-reads w ts (bytes ts l) (answer ts l .answer .watch) (told-places (answer ts l))
   unfolding called
@@ -142,4 +145,4 @@ entries-alike w rest other ls ks good e = alike (entries w rest good ls) (entrie
 pub behind-unread : Behind-unread
 unfolding Behind-unread feed-call feed-refusal
 behind-unread w rest other x l good =
-    simp (sheet-begins w rest good, sheet-begins w other good, sheet-named w rest, sheet-named w other) refl
+    simp (sheet-begins w rest good, sheet-begins w other good, code-named w rest good, code-named w other good) refl

@@ -16,25 +16,24 @@ use Rattle.automaton.proofs.Counts.{below-rises}
 use Rattle.automaton.proofs.FewArrows.{few-arrows}
 use Rattle.automaton.proofs.Steps.{forward-on, forward-off}
 use Rattle.codes.specs.Codes.{longest-code}
-use Rattle.sheets.specs.Sheet.{named}
-use Rattle.sheets.proofs.Sheets.{begins-bounds}
 use Rattle.finder.specs.declared.Sought.the-variants.{At, Nowhere}
 use Rattle.finder.specs.Inside.{target-of, Sought-by, Leads, Readable, Went}
+use Rattle.finder.proofs.Coded.{coded-bounds}
 use Rattle.finder.proofs.Comparing.{state-rise, compared-none, compared-at}
 use Rattle.finder.proofs.Leading.{step-cheap, leads-none, leads-step}
 
 -- from state p and index i: j of so many bytes followed a forward arrow. The targets of p start at one number, and those of the next state at l
-pub record Forwards (bs : List ℕ) (m p : ℕ) (piece : List ℕ) (i start count l j : ℕ) : Type 0 where
-  pub began : Readable bs m p piece i
-  pub count-is : count ≡ min (length piece - i) (m - p)
+pub record Forwards (bs w : List ℕ) (p : ℕ) (piece : List ℕ) (i start count l j : ℕ) : Type 0 where
+  pub began : Readable bs w p piece i
+  pub count-is : count ≡ min (length piece - i) (length w - p)
   pub fewer : j ≤ count
-  pub l-is : l ≡ arrows-below (named bs) (p + j)
+  pub l-is : l ≡ arrows-below w (p + j)
   pub on : start ≤ l
-  pub leads : Leads (named bs) piece p i (p + j) (l - start + j) (i + j)
+  pub leads : Leads w piece p i (p + j) (l - start + j) (i + j)
 
-pub forwards-none : {bs : List ℕ} {m p : ℕ} {piece : List ℕ} {i : ℕ} → Readable bs m p piece i → p < m → (start count : ℕ) →
-    start ≡ arrows-below (named bs) p → count ≡ min (length piece - i) (m - p) → Forwards bs m p piece i start count start 0
-forwards-none {bs} {m} {p} {piece} {i} g low start count e f =
+pub forwards-none : {bs w : List ℕ} {p : ℕ} {piece : List ℕ} {i : ℕ} → Readable bs w p piece i → p < length w → (start count : ℕ) →
+    start ≡ arrows-below w p → count ≡ min (length piece - i) (length w - p) → Forwards bs w p piece i start count start 0
+forwards-none {bs} {w} {p} {piece} {i} g low start count e f =
     let none : start - start + 0 ≡ 0 = omega arith in
     record {
       began = g;
@@ -42,17 +41,13 @@ forwards-none {bs} {m} {p} {piece} {i} g low start count e f =
       fewer = omega arith;
       l-is = rw (add-zero p) e;
       on = le-refl start;
-      leads =
-          rw (add-zero p, add-zero i, none) (leads-none (named bs) piece p i (omega (arith, low, g .sheet .m-is)) (omega (arith, g .inside)));
+      leads = rw (add-zero p, add-zero i, none) (leads-none w piece p i low (omega (arith, g .inside)));
     }
 
 module _
-    {bs : List ℕ} {m p : ℕ} {piece : List ℕ} {i start count l j : ℕ} (s : Forwards bs m p piece i start count l j) where
-  abbrev w : List ℕ
-  w = named bs
-
+    {bs w : List ℕ} {p : ℕ} {piece : List ℕ} {i start count l j : ℕ} (s : Forwards bs w p piece i start count l j) where
   short : length w ≤ longest-code
-  short = begins-bounds bs (s .began .sheet .on) .1
+  short = coded-bounds (s .began .sheet) .1
 
   few : (k : ℕ) → k ≤ suc (length w) → arrows-below w k ≤ longest-code
   unfolding Few-arrows
@@ -60,23 +55,17 @@ module _
 
   -- what sums and calls need
   pub forwards-bounds :
-      (p + j ≤ m) × (i + j ≤ length piece) × (l ≤ longest-code) × (m ≡ length (named bs)) × (m ≤ longest-code) × (length piece ≤ longest-text)
+      (p + j ≤ length w) × (i + j ≤ length piece) × (l ≤ longest-code) × (length w ≤ longest-code) × (length piece ≤ longest-text)
   forwards-bounds =
       let g = s .began in
-      let at : p + j ≤ m = omega (arith, s .fewer, s .count-is, g .state) in (
-        at,
-        omega (arith, s .fewer, s .count-is, g .inside),
-        rw (s .l-is) (few (p + j) (omega (arith, at, g .sheet .m-is))),
-        g .sheet .m-is,
-        omega (arith, short, g .sheet .m-is),
-        g .text,
-      )
+      let at : p + j ≤ length w = omega (arith, s .fewer, s .count-is, g .state) in
+      (at, omega (arith, s .fewer, s .count-is, g .inside), rw (s .l-is) (few (p + j) (omega (arith, at))), short, g .text)
 
   -- THE END
   pub forwards-end : count ≤ j → Went w piece p i (record { bytes = j; failed = l - start; arrow = Forward })
   forwards-end h =
       let b = forwards-bounds in
-      record { bytes = b .1; few = omega (arith, b .2); by = (omega (arith, s .fewer, s .count-is, b .3), s .leads) }
+      record { bytes = b .1; few = omega (arith, b .2); by = (omega (arith, s .fewer, s .count-is), s .leads) }
 
   -- A TURN: the backward labels are compared up to a number
   module _ (h : j < count) (end : ℕ) (e : end ≡ arrows-below w (p + j + 1)) where
@@ -84,15 +73,15 @@ module _
     c = getD piece (i + j) 0
 
     low : p + j < length w
-    low = omega (arith, h, s .count-is, s .began .sheet .m-is)
+    low = omega (arith, h, s .count-is)
 
     inside : i + j < length piece
     inside = omega (arith, h, s .count-is)
 
-    pub forwards-rise : (l ≤ end) × (end ≤ back-arrows w) × (end ≤ longest-code) × (p + j < m) × (i + j < length piece)
+    pub forwards-rise : (l ≤ end) × (end ≤ back-arrows w) × (end ≤ longest-code) × (p + j < length w)
     forwards-rise =
         let r = state-rise w (p + j) (omega (arith, low)) l end (s .l-is) e in
-        (r .0, r .1, rw e (few (p + j + 1) (omega (arith, low))), omega (arith, low, s .began .sheet .m-is), inside)
+        (r .0, r .1, rw e (few (p + j + 1) (omega (arith, low))), low)
 
     -- a step behind the bytes so far
     went : (q : Step) → q ≡ stepped w (p + j) c → Leads w piece p i (q .state) (l - start + j + q .cost) (i + j + 1)
@@ -135,7 +124,7 @@ module _
                 (sym (is ∙ forward-off (end - l) w (p + j) c low (λ f. n (label-next w (p + j) ∙ f)))));
           }
 
-      pub forwards-next : label w (p + j + 1) ≡ c → Forwards bs m p piece i start count end (j + 1)
+      pub forwards-next : label w (p + j + 1) ≡ c → Forwards bs w p piece i start count end (j + 1)
       forwards-next f =
           let state : suc (p + j) ≡ p + (j + 1) = omega arith in
           let place : i + j + 1 ≡ i + (j + 1) = omega arith in

@@ -6,6 +6,7 @@ pub mod Refusing
 pub mod Endings
 pub mod Entries
 pub mod Passing
+pub mod Coded
 pub mod Comparing
 pub mod Leading
 pub mod Forwards

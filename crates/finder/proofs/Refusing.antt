@@ -17,7 +17,7 @@ use Rattle.finder.specs.declared.Watch.{Watch}
 use Rattle.finder.specs.declared.Feeding.{Feeding}
 use Rattle.finder.specs.Feed.{fit}
 use Rattle.finder.specs.Entry.{Lent, feed-refusal, refused-call, call-by, feed-call, Feed-says}
-use Rattle.finder.specs.Inside.{Ready, Took}
+use Rattle.finder.specs.Inside.{Coded, Ready, Took}
 use Rattle.finder.proofs.Fitness.{fit-ready}
 
 -- THE TESTS, each after those before it passed
@@ -72,8 +72,12 @@ module _ (bs : List ℕ) (x : Watch) (l k : ℕ) where
     pub none-room : 1 ≤ k
     none-room = let h : k ≢ 0 = eqb-false k 0 (passed .2) in omega arith
 
-    pub none-ready : (begins bs ≡ true) × Ready (length (named bs)) x l
-    none-ready = (passed .0, fit-ready (length (named bs)) x l (passed .1) (ltb-false longest-text (x .taken + l) (passed .3)))
+    pub none-begins : begins bs ≡ true
+    none-begins = passed .0
+
+    pub none-ready : {w : List ℕ} → Coded bs w → Ready (length w) x l
+    none-ready {w} g =
+        rw (g .code-is) (fit-ready (length (named bs)) x l (passed .1) (ltb-false longest-text (x .taken + l) (passed .3)))
 
 -- THE CONTRACT
 module _ (bs : List ℕ) (x : Watch) (l : Lent) (n : ℕ) (e : n ≡ feed-refusal bs x (length (l .piece)) (length (l .list))) where
@@ -85,6 +89,6 @@ module _ (bs : List ℕ) (x : Watch) (l : Lent) (n : ℕ) (e : n ≡ feed-refusa
       by-number zero z = absurd (z refl)
       by-number (suc j) z = unfold call-by in refl
 
-  pub says-took : n ≡ 0 → (r : Feeding) (a : Lent) → Took (named bs) x l r a → Feed-says bs x l r a
+  pub says-took : n ≡ 0 → {w : List ℕ} → Coded bs w → (r : Feeding) (a : Lent) → Took w x l r a → Feed-says bs x l r a
   unfolding feed-call call-by
-  says-took z r a t = record { is = rw (sym e ∙ z) (t .is) }
+  says-took z {w} g r a t = record { is = rw (sym e ∙ z, ← g .code-is) (t .is) }

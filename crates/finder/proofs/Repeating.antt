@@ -4,7 +4,7 @@ use mathlib.Core.Bool.{false}
 use mathlib.Core.Logic.{_≢_}
 use mathlib.Core.List.{List, [], _∷_, _++_, append-nil, append-assoc}
 use Prim.Native.Nat.{ℕ, zero, suc, _+_, _-_, _≤_, _<_}
-use native.Mathlib.Nat.{add-zero}
+use native.Mathlib.Nat.{add-zero, le-refl}
 use native.Mathlib.Numerals.{add-one}
 use native.Mathlib.Omega.{arith}
 use lib.Dec.{eqb}
@@ -90,15 +90,18 @@ length-row a zero = refl
 length-row a (suc n) = length-snoc (in-a-row a n) (a + n) ∙ ap suc (length-row a n)
 
 -- STATE m has one arrow, to m again
-module _ (w piece : List ℕ) (m : ℕ) (m-is : m ≡ length w) (own : back-targets w m ≡ m ∷ []) (some : 1 ≤ m) where
+module _ (w piece : List ℕ) (own : back-targets w (length w) ≡ length w ∷ []) (some : 1 ≤ length w) where
+  abbrev m : ℕ
+  m = length w
+
   again : (i : ℕ) → i < length piece → getD piece i 0 ≡ label w m → Leads w piece m i m 1 (i + 1)
   again i h e =
-      leads-byte w piece m i (omega (arith, m-is)) h (step m 1 (Back m)) (sym (step-one w m (getD piece i 0) m own (sym e))) (omega arith)
+      leads-byte w piece m i (le-refl m) h (step m 1 (Back m)) (sym (step-one w m (getD piece i 0) m own (sym e))) (omega arith)
 
   leaves : (i : ℕ) → i < length piece → getD piece i 0 ≢ label w m → Leads w piece m i 0 1 (i + 1)
   leaves i h n =
-      leads-byte w piece m i (omega (arith, m-is)) h (step 0 1 Nothing)
-      (sym (step-not-one w m (getD piece i 0) m own (λ e. n (sym e)) ∙ forward-past 1 w m (getD piece i 0) (omega (arith, m-is))))
+      leads-byte w piece m i (le-refl m) h (step 0 1 Nothing)
+      (sym (step-not-one w m (getD piece i 0) m own (λ e. n (sym e)) ∙ forward-past 1 w m (getD piece i 0) (le-refl m)))
       (omega arith)
 
   -- n bytes that lead to m again, and their places
@@ -112,8 +115,8 @@ module _ (w piece : List ℕ) (m : ℕ) (m-is : m ≡ length w) (own : back-targ
       let y : Watch = further x m n n n in
       let a : ℕ = x .taken - m + 1 in
       let one : i + n + 1 - (i + n) ≡ 1 = omega arith in
-      let place : x .taken + n + 1 - length w ≡ a + n = omega (arith, m-is) in
-      let told : completed (length w) m (x .taken + n + 1) ≡ (a + n) ∷ [] = completed-one (length w) m (x .taken + n + 1) m-is ∙ rw place refl in
+      let place : x .taken + n + 1 - m ≡ a + n = omega arith in
+      let told : completed m m (x .taken + n + 1) ≡ (a + n) ∷ [] = completed-one m m (x .taken + n + 1) refl ∙ rw place refl in
       let taken : x .taken + n + 1 ≡ x .taken + suc n = omega arith in
       let hits : x .hits + n + 1 ≡ x .hits + suc n = omega arith in
       let cost : x .compares + n + 1 ≡ x .compares + suc n = omega arith in
@@ -152,7 +155,7 @@ module _ (w piece : List ℕ) (m : ℕ) (m-is : m ≡ length w) (own : back-targ
           few = omega (arith, size);
           later = omega arith;
           within = omega (arith, fewer, bytes);
-          state = omega (arith, m-is);
+          state = le-refl m;
           reached = omega (arith, reached);
           cheap = omega arith;
           feeds = λ x e t. rw (taken, size) (row x e t);
@@ -178,7 +181,7 @@ module _ (w piece : List ℕ) (m : ℕ) (m-is : m ≡ length w) (own : back-targ
         left x e t =
             let y : Watch = further x m n n n in
             let one : i + n + 1 - (i + n) ≡ 1 = omega arith in
-            let none : completed (length w) 0 (x .taken + n + 1) ≡ [] = completed-none (length w) 0 (x .taken + n + 1) (λ f. omega (arith, f, m-is, some)) in
+            let none : completed m 0 (x .taken + n + 1) ≡ [] = completed-none m 0 (x .taken + n + 1) (λ f. omega (arith, f, some)) in
             let at : x .taken + n + 1 ≡ x .taken + (n + 1) = omega arith in
             let hits : x .hits + n + 0 ≡ x .hits + n = omega arith in
             let cost : x .compares + n + 1 ≡ x .compares + (n + 1) = omega arith in
@@ -190,17 +193,17 @@ module _ (w piece : List ℕ) (m : ℕ) (m-is : m ≡ length w) (own : back-targ
             rw append-nil at all
 
 -- WHETHER STATE m is so: by the number of its arrows, and the first
-module _ (w : List ℕ) (m from to : ℕ) (m-is : m ≡ length w) (e : from ≡ arrows-below w m) (f : to ≡ arrows-below w (m + 1)) where
-  count : arrows w m ≡ to - from
-  count = omega (arith, e, f, below-suc w m, ap (arrows-below w) (add-one m))
+module _ (w : List ℕ) (from to : ℕ) (e : from ≡ arrows-below w (length w)) (f : to ≡ arrows-below w (length w + 1)) where
+  count : arrows w (length w) ≡ to - from
+  count = omega (arith, e, f, below-suc w (length w), ap (arrows-below w) (add-one (length w)))
 
-  pub own-not : to - from ≢ 1 → false ≡ same (back-targets w m) (m ∷ [])
-  own-not n = sym (not-same (back-targets w m) (m ∷ []) (λ z. n (sym count ∙ ap length z)))
+  pub own-not : to - from ≢ 1 → false ≡ same (back-targets w (length w)) (length w ∷ [])
+  own-not n = sym (not-same (back-targets w (length w)) (length w ∷ []) (λ z. n (sym count ∙ ap length z)))
 
-  pub own-by : to - from ≡ 1 → (t : ℕ) → t ≡ target-of w from → eqb t m ≡ same (back-targets w m) (m ∷ [])
+  pub own-by : to - from ≡ 1 → (t : ℕ) → t ≡ target-of w from → eqb t (length w) ≡ same (back-targets w (length w)) (length w ∷ [])
   own-by one t g =
-      let some : 0 < arrows w m = omega (arith, count) in
-      let at : arrows-below w m + 0 ≡ from = omega (arith, e) in
-      let is : t ≡ getD (back-targets w m) 0 0 =
-      g ∙ ap (target-of w) (sym at) ∙ target-at w (suc (length w)) m 0 (omega (arith, m-is)) some in
-      sym (same-one (back-targets w m) m (count ∙ one) ∙ rw is refl)
+      let some : 0 < arrows w (length w) = omega (arith, count) in
+      let at : arrows-below w (length w) + 0 ≡ from = omega (arith, e) in
+      let is : t ≡ getD (back-targets w (length w)) 0 0 =
+      g ∙ ap (target-of w) (sym at) ∙ target-at w (suc (length w)) (length w) 0 (omega arith) some in
+      sym (same-one (back-targets w (length w)) (length w) (count ∙ one) ∙ rw is refl)

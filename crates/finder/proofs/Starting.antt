@@ -15,11 +15,10 @@ use Rattle.automaton.proofs.Targets.{label-suc, back-one}
 use Rattle.automaton.proofs.Counts.{below-suc, below-one}
 use Rattle.automaton.proofs.Steps.{steps-at-zero, step-none, step-one, step-not-one, forward-on, forward-off}
 use Rattle.codes.specs.Codes.{longest-code}
-use Rattle.sheets.specs.Sheet.{named}
-use Rattle.sheets.proofs.Sheets.{begins-bounds}
 use Rattle.finder.specs.declared.Led.{Led}
 use Rattle.finder.specs.Inside.{Skipped, Stayed, Leads, Led-from, Readable, Stayed-one, led-to}
 use Rattle.finder.proofs.Passing.{passed-none, passed-as, stopped-found}
+use Rattle.finder.proofs.Coded.{coded-bounds}
 use Rattle.finder.proofs.Leading.{step-cheap, leads-none, leads-on, leads-step, leads-same, leads-other}
 
 -- STATE 1 has at most one backward arrow, to 1 again on the code's first byte
@@ -43,27 +42,24 @@ pub led-as : {w piece : List ℕ} {p i : ℕ} (s t : Led) → s ≡ t → Led-fr
 led-as s t e m = rw e m
 
 -- the bytes from one index to index i lead to 0: one comparison for each, and the labels that failed besides
-pub record Started (bs : List ℕ) (m : ℕ) (piece : List ℕ) (from failed i : ℕ) : Type 0 where
-  pub began : Readable bs m 0 piece from
-  pub leads : Leads (named bs) piece 0 from 0 (i - from + failed) i
+pub record Started (bs w piece : List ℕ) (from failed i : ℕ) : Type 0 where
+  pub began : Readable bs w 0 piece from
+  pub leads : Leads w piece 0 from 0 (i - from + failed) i
 
-pub started : {bs : List ℕ} {m : ℕ} {piece : List ℕ} {from : ℕ} → Readable bs m 0 piece from → Started bs m piece from 0 from
-started {bs} {m} {piece} {from} g =
+pub started : {bs w piece : List ℕ} {from : ℕ} → Readable bs w 0 piece from → Started bs w piece from 0 from
+started {bs} {w} {piece} {from} g =
     let none : from - from + 0 ≡ 0 = omega arith in
     record {
       began = g;
-      leads = rw none (leads-none (named bs) piece 0 from (begins-bounds bs (g .sheet .on) .0) (omega (arith, g .inside)));
+      leads = rw none (leads-none w piece 0 from (coded-bounds (g .sheet) .0) (omega (arith, g .inside)));
     }
 
-module _ {bs : List ℕ} {m : ℕ} {piece : List ℕ} {from failed i : ℕ} (s : Started bs m piece from failed i) where
-  abbrev w : List ℕ
-  w = named bs
-
+module _ {bs w piece : List ℕ} {from failed i : ℕ} (s : Started bs w piece from failed i) where
   some : 1 ≤ length w
-  some = begins-bounds bs (s .began .sheet .on) .0
+  some = coded-bounds (s .began .sheet) .0
 
   cheap : (p c : ℕ) → p ≤ length w → stepped w p c .cost ≤ longest-code
-  cheap p c h = step-cheap w p c h (begins-bounds bs (s .began .sheet .on) .1)
+  cheap p c h = step-cheap w p c h (coded-bounds (s .began .sheet) .1)
 
   -- what sums and calls need
   pub started-bounds : (from ≤ i) × (i ≤ length piece) × (i - from + failed ≤ longest-code * (i - from)) × (length piece ≤ longest-text)
@@ -103,9 +99,9 @@ module _ {bs : List ℕ} {m : ℕ} {piece : List ℕ} {from failed i : ℕ} (s :
       started-first = record { later = omega (arith, on, past); leads = first }
 
       -- IN STATE 1, below m
-      module _ (two : 2 ≤ m) (l : ℕ) (y : Stayed-one w piece (j + 1) l) where
+      module _ (two : 2 ≤ length w) (l : ℕ) (y : Stayed-one w piece (j + 1) l) where
         low : 1 < length w
-        low = omega (arith, two, s .began .sheet .m-is)
+        low = omega arith
 
         after : j + 1 ≤ l
         after = y .passed .on
@@ -137,7 +133,7 @@ module _ {bs : List ℕ} {m : ℕ} {piece : List ℕ} {from failed i : ℕ} (s :
                     (sym (y .found there ∙ forward-on (arrows w 1) w 1 (getD piece l 0) low (sym (f ∙ label-suc w 1)))) refl;
               }
 
-          pub started-again : getD piece l 0 ≢ label w 2 → Started bs m piece from (failed + n) (l + 1)
+          pub started-again : getD piece l 0 ≢ label w 2 → Started bs w piece from (failed + n) (l + 1)
           started-again f =
               record {
                 began = s .began;

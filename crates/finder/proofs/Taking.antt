@@ -1,6 +1,5 @@
 -- The loop over a piece: the bytes taken and the places written so far come before what is fed of the rest. Assumes nothing.
 use mathlib.Core.Path.{_≡_, refl, sym, _∙_}
-use mathlib.Core.Bool.{true}
 use mathlib.Core.List.{List}
 use Prim.Native.Nat.{ℕ, _+_, _*_, _-_, _^_, _≤_, _<_}
 use native.Mathlib.Nat.{add-zero}
@@ -14,24 +13,24 @@ use Rattle.runs.specs.Reading.{longest-text, fed, ending}
 use Rattle.runs.proofs.Feeds.{Taking, taking-start, taking-more, taking-done, taking-full, ending-list, ending-done}
 use Rattle.runs.proofs.Fronts.{Front, front-none, front-length, front-all}
 use Rattle.codes.specs.Codes.{longest-code}
-use Rattle.sheets.specs.Sheet.{named, begins}
 use Rattle.finder.specs.declared.Watch.{Watch}
 use Rattle.finder.specs.declared.Led.{Led}
 use Rattle.finder.specs.declared.piece.Turn.{Turn}
 use Rattle.finder.specs.Feed.{completed, feeder, feed}
 use Rattle.finder.specs.Entry.{lent}
-use Rattle.finder.specs.Inside.{Sized, further, Led-from, Written, Placed, Turning, Turned, Ready, Took}
+use Rattle.finder.specs.Inside.{Coded, further, Led-from, Written, Placed, Turning, Turned, Ready, Took}
 use Rattle.finder.proofs.Places.{completed-few}
+use Rattle.finder.proofs.Coded.{coded-bounds}
 
 -- A TURN that some bytes make, and what the last of them has completed
-pub turned-by : {bs : List ℕ} {m before p : ℕ} {piece : List ℕ} {i : ℕ} {ps : List ℕ} {k : ℕ} → Turning bs m before p piece i ps k → (s : Led) →
-    Led-from (named bs) piece p i s → (t : Turn) (qs : List ℕ) → Placed m before s k ps t qs → Turned (named bs) piece before p i k ps t qs
-turned-by {bs} {m} {before} {p} {piece} {i} {ps} {k} g s v t qs r =
+pub turned-by : {w : List ℕ} {before p : ℕ} {piece : List ℕ} {i : ℕ} {ps : List ℕ} {k : ℕ} → Turning w before p piece i ps k → (s : Led) →
+    Led-from w piece p i s → (t : Turn) (qs : List ℕ) → Placed (length w) before s k ps t qs → Turned w piece before p i k ps t qs
+turned-by {w} {before} {p} {piece} {i} {ps} {k} g s v t qs r =
     let later : i < s .at = v .later in
     record {
-      told = completed m (s .state) (before + s .at);
+      told = completed (length w) (s .state) (before + s .at);
       written = r .written;
-      few = omega (arith, completed-few m (s .state) (before + s .at), r .at);
+      few = omega (arith, completed-few (length w) (s .state) (before + s .at), r .at);
       later = rw (r .at) later;
       within = rw (r .at) (v .leads .within);
       state = rw (r .state) (v .leads .state);
@@ -39,19 +38,19 @@ turned-by {bs} {m} {before} {p} {piece} {i} {ps} {k} g s v t qs r =
       cheap = rw (r .cost, r .at) (v .leads .cheap);
       feeds = λ x e f.
           let at : x .taken + (s .at - i) ≡ before + s .at = omega (arith, f) in
-          rw (r .state, r .cost, r .at, g .sheet .m-is, ← at) (v .leads .feeds x e (length ps - k) (omega (arith, g .room)));
+          rw (r .state, r .cost, r .at, ← at) (v .leads .feeds x e (length ps - k) (omega (arith, g .room)));
     }
 
 -- i bytes are taken from watch x on, which led to state q at a cost, and k places are written to a list that was ps₀
-pub record Loop (bs : List ℕ) (x : Watch) (piece ps₀ : List ℕ) (m q c i k : ℕ) (ps : List ℕ) : Type 0 where
-  pub sheet : Sized bs m
-  pub ready : Ready m x (length piece)
-  pub state : q ≤ m
+pub record Loop (bs w : List ℕ) (x : Watch) (piece ps₀ : List ℕ) (q c i k : ℕ) (ps : List ℕ) : Type 0 where
+  pub sheet : Coded bs w
+  pub ready : Ready (length w) x (length piece)
+  pub state : q ≤ length w
   pub reached : q ≤ x .taken + i
   pub cheap : c ≤ longest-code * i
   pub fewer : k ≤ i
   pub front : Front ps₀ ps k
-  pub taking : Taking (feeder (named bs)) x piece (length ps₀) (further x q i k c) i (take k ps)
+  pub taking : Taking (feeder w) x piece (length ps₀) (further x q i k c) i (take k ps)
 
 -- more numbers stand in front
 front-on : {ps₀ ps : List ℕ} {k : ℕ} {more : List ℕ} {n : ℕ} {qs : List ℕ} → Front ps₀ ps k → Written ps k more n qs → Front ps₀ qs n
@@ -62,21 +61,21 @@ front-on {ps₀} {ps} {k} {more} {n} {qs} f t =
       tail = t .tail ∙ drop-more k n ps ps₀ (omega (arith, t .count)) (f .tail);
     }
 
-pub loop-start : {bs : List ℕ} {x : Watch} {piece ps : List ℕ} (m : ℕ) → begins bs ≡ true → Ready (length (named bs)) x (length piece) →
-    m ≡ length (named bs) → Loop bs x piece ps m (x .state) 0 0 0 ps
-loop-start {bs} {x} {piece} {ps} m o r e =
+pub loop-start : {bs w : List ℕ} {x : Watch} {piece ps : List ℕ} → Coded bs w → Ready (length w) x (length piece) →
+    Loop bs w x piece ps (x .state) 0 0 0 ps
+loop-start {bs} {w} {x} {piece} {ps} g r =
     record {
-      sheet = record { on = o; m-is = e };
-      ready = rw e r;
-      state = omega (arith, r .state);
+      sheet = g;
+      ready = r;
+      state = r .state;
       reached = omega (arith, r .reached);
       cheap = omega arith;
       fewer = omega arith;
       front = front-none ps;
-      taking = rw (add-zero (x .taken), add-zero (x .hits), add-zero (x .compares)) (taking-start (feeder (named bs)) x piece (length ps));
+      taking = rw (add-zero (x .taken), add-zero (x .hits), add-zero (x .compares)) (taking-start (feeder w) x piece (length ps));
     }
 
-module _ {bs : List ℕ} {x : Watch} {piece ps₀ : List ℕ} {m q c i k : ℕ} {ps : List ℕ} (t : Loop bs x piece ps₀ m q c i k ps) where
+module _ {bs w : List ℕ} {x : Watch} {piece ps₀ : List ℕ} {q c i k : ℕ} {ps : List ℕ} (t : Loop bs w x piece ps₀ q c i k ps) where
   size : length (take k ps) ≡ k
   size = front-length (t .front)
 
@@ -94,9 +93,9 @@ module _ {bs : List ℕ} {x : Watch} {piece ps₀ : List ℕ} {m q c i k : ℕ} 
       )
 
   -- THE END: with the piece, or with the list
-  took : (e : Ending) → feed (named bs) piece (length ps₀) x ≡ fed (further x q i k c) i (take k ps) →
+  took : (e : Ending) → feed w piece (length ps₀) x ≡ fed (further x q i k c) i (take k ps) →
       e ≡ ending 1 piece (length ps₀) (fed (further x q i k c) i (take k ps)) →
-      Took (named bs) x (lent piece ps₀) (record { watch = further x q i k c; taken = i; written = k; ending = e }) (lent piece ps)
+      Took w x (lent piece ps₀) (record { watch = further x q i k c; taken = i; written = k; ending = e }) (lent piece ps)
   unfolding in-front
   took e f g =
       record {
@@ -110,31 +109,35 @@ module _ {bs : List ℕ} {x : Watch} {piece ps₀ : List ℕ} {m q c i k : ℕ} 
       }
 
   pub answer-done : (e : Ending) → e ≡ PieceDone → length piece ≤ i →
-      Took (named bs) x (lent piece ps₀) (record { watch = further x q i k c; taken = i; written = k; ending = e }) (lent piece ps)
+      Took w x (lent piece ps₀) (record { watch = further x q i k c; taken = i; written = k; ending = e }) (lent piece ps)
   answer-done e d h =
       took e (taking-done (t .taking) h) (d ∙ sym (ending-done 1 piece (length ps₀) (fed (further x q i k c) i (take k ps)) h))
 
   pub answer-full : (e : Ending) → e ≡ ListFull → i < length piece → length ps ≤ k →
-      Took (named bs) x (lent piece ps₀) (record { watch = further x q i k c; taken = i; written = k; ending = e }) (lent piece ps)
+      Took w x (lent piece ps₀) (record { watch = further x q i k c; taken = i; written = k; ending = e }) (lent piece ps)
   answer-full e d l h =
       let none : length ps₀ - length (take k ps) < 1 = omega (arith, size, t .front .size) in
       took e (taking-full (t .taking) none) (d ∙ sym (ending-list 1 piece (length ps₀) (fed (further x q i k c) i (take k ps)) none l))
 
   -- A TURN
-  pub turning : i < length piece → k < length ps → Turning bs m (x .taken) q piece i ps k
+  pub turning : i < length piece → k < length ps → Coded bs w × Turning w (x .taken) q piece i ps k
   turning h r =
-      record {
-        sheet = t .sheet;
-        state = t .state;
-        reached = t .reached;
-        inside = h;
-        text = t .ready .text;
-        room = r;
-        fewer = t .fewer;
-      }
+      let b = coded-bounds (t .sheet) in (
+        t .sheet,
+        record {
+          some = b .0;
+          few = b .1;
+          state = t .state;
+          reached = t .reached;
+          inside = h;
+          text = t .ready .text;
+          room = r;
+          fewer = t .fewer;
+        },
+      )
 
-  pub turn-on : (u : Turn) (qs : List ℕ) → Turned (named bs) piece (x .taken) q i k ps u qs →
-      Loop bs x piece ps₀ m (u .state) (c + u .cost) (u .at) (u .written) qs
+  pub turn-on : (u : Turn) (qs : List ℕ) → Turned w piece (x .taken) q i k ps u qs →
+      Loop bs w x piece ps₀ (u .state) (c + u .cost) (u .at) (u .written) qs
   turn-on u qs v =
       let told : List ℕ = v .told in
       let later : i < u .at = v .later in
@@ -147,7 +150,7 @@ module _ {bs : List ℕ} {x : Watch} {piece ps₀ : List ℕ} {m q c i k : ℕ} 
       record {
         sheet = t .sheet;
         ready = t .ready;
-        state = omega (arith, v .state, t .sheet .m-is);
+        state = v .state;
         reached = v .reached;
         cheap = omega (arith, t .cheap, v .cheap);
         fewer = omega (arith, t .fewer);

@@ -10,7 +10,7 @@ use Rattle.automaton.specs.declared.Arrow.{Arrow}
 use Rattle.automaton.specs.declared.Arrow.the-variants.{Back, Forward, Nothing}
 use Rattle.automaton.specs.Arrows.{label, all-targets, arrows, step, try-forward, stepped}
 use Rattle.codes.specs.Codes.{longest-code}
-use Rattle.sheets.specs.Sheet.{named, begins}
+use Rattle.sheets.specs.Sheet.{number-width, named, begins}
 use Rattle.finder.specs.declared.Watch.{Watch}
 use Rattle.finder.specs.declared.Feeding.{Feeding}
 use Rattle.finder.specs.declared.Sought.{Sought}
@@ -46,10 +46,21 @@ Skipped cs from c at = Reaches (Other cs c) (Here cs c) from (length cs) at
 abbrev pub Stayed : (piece : List ℕ) → (from c at : ℕ) → Type 0
 Stayed cs from c at = Reaches (Here cs c) (Other cs c) from (length cs) at
 
--- THE SHEET of a code of m bytes
-pub record Sized (bs : List ℕ) (m : ℕ) : Type 0 where
+-- THE SHEET of a code of m bytes, with numbers of so many bytes
+pub record Sized (bs : List ℕ) (m width : ℕ) : Type 0 where
   pub on : begins bs ≡ true
   pub m-is : m ≡ length (named bs)
+  pub width-is : width ≡ number-width m
+
+-- the sheet of code w
+pub record Coded (bs w : List ℕ) : Type 0 where
+  pub on : begins bs ≡ true
+  pub code-is : w ≡ named bs
+
+-- with numbers of so many bytes
+pub record Shaped (bs w : List ℕ) (width : ℕ) : Type 0 where
+  pub coded : Coded bs w
+  pub width-is : width ≡ number-width (length w)
 
 -- target number l of the code's
 abbrev pub target-of : (w : List ℕ) → (l : ℕ) → ℕ
@@ -86,11 +97,29 @@ pub record Led-from (w piece : List ℕ) (p i : ℕ) (s : Led) : Type 0 where
   pub later : i < s .at
   pub leads : Leads w piece p i (s .state) (s .cost) (s .at)
 
+-- the same, or none was taken yet, from a state between 0 and m
+pub record Begun (w piece : List ℕ) (p i : ℕ) (s : Led) : Type 0 where
+  pub leads : Leads w piece p i (s .state) (s .cost) (s .at)
+  pub still : s .at ≡ i → (s .state ≡ p) × (1 ≤ p) × (p < length w)
+
+-- what has led to state p and index i leads on from there: by some bytes more where p is neither 0 nor m and one is left
+pub record Ran-from (w piece : List ℕ) (p i : ℕ) (s : Led) : Type 0 where
+  pub on : i ≤ s .at
+  pub later : 1 ≤ p → p < length w → i < length piece → i < s .at
+  pub leads : (o from cost : ℕ) → Leads w piece o from p cost i → Leads w piece o from (s .state) (cost + s .cost) (s .at)
+
 -- a byte can be read at index i in state p
-pub record Readable (bs : List ℕ) (m p : ℕ) (piece : List ℕ) (i : ℕ) : Type 0 where
-  pub sheet : Sized bs m
-  pub state : p ≤ m
+pub record Readable (bs w : List ℕ) (p : ℕ) (piece : List ℕ) (i : ℕ) : Type 0 where
+  pub sheet : Coded bs w
+  pub state : p ≤ length w
   pub inside : i < length piece
+  pub text : length piece ≤ longest-text
+
+-- the same, if a byte is left
+pub record Running (bs w : List ℕ) (p : ℕ) (piece : List ℕ) (i : ℕ) : Type 0 where
+  pub sheet : Coded bs w
+  pub state : p ≤ length w
+  pub within : i ≤ length piece
   pub text : length piece ≤ longest-text
 
 -- FORWARD ARROWS were followed by n bytes, all that the piece or the code has where no other byte was looked at, and so many backward labels failed. With the
@@ -153,9 +182,10 @@ pub record Repeated (piece : List ℕ) (from count c k last : ℕ) (ps : List �
   pub written : Written ps k (in-a-row (last + 1) n) (k + n) qs
 
 -- THE LOOP OVER A PIECE, which has so many bytes of text before it. A turn can start in state p at index i, with k places written
-pub record Turning (bs : List ℕ) (m before p : ℕ) (piece : List ℕ) (i : ℕ) (ps : List ℕ) (k : ℕ) : Type 0 where
-  pub sheet : Sized bs m
-  pub state : p ≤ m
+pub record Turning (w : List ℕ) (before p : ℕ) (piece : List ℕ) (i : ℕ) (ps : List ℕ) (k : ℕ) : Type 0 where
+  pub some : 1 ≤ length w
+  pub few : length w ≤ longest-code
+  pub state : p ≤ length w
   pub reached : p ≤ before + i
   pub inside : i < length piece
   pub text : before + length piece ≤ longest-text

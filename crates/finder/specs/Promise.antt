@@ -82,7 +82,7 @@ Endings-told =
     × (ending-full (r .ending) ≡ 1 → (r .written ≡ length (l .list)) × (r .taken < length (l .piece)))
     × (ending-refusal (r .ending) ≡ 0 → ending-full (r .ending) ≡ 0 → r .taken ≡ length (l .piece))
 
--- number 4 comes up exactly where the buffer does not begin with the sheet of an accepted code; of the sheets of codes of 1 to 255 bytes, exactly for
+-- number 4 comes up exactly where the buffer does not begin with the sheet of an accepted code; of the sheets of codes of 1 to 4,000 bytes, exactly for
 -- those of codes with a control byte, the one exception
 unfoldable pub Sheets-told : Type 0
 Sheets-told =

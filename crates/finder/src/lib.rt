@@ -6,12 +6,15 @@ ghost use Prim.Native.Nat.{_+_, _^_, _≤_, _<_, min};
 ghost use lib.ListN.{length};
 ghost use Rattle.automaton.specs.Arrows.{label, arrows-below, back-arrows, try-forward, stepped};
 ghost use Rattle.codes.specs.Codes.{longest-code};
-ghost use Rattle.sheets.specs.Sheet.{named, begins};
+ghost use Rattle.sheets.specs.Sheet.{number-width, named, begins};
 ghost use Rattle.finder.specs.Feed.{opened};
-ghost use Rattle.finder.specs.Inside.{Sized, target-of, Sought-by, Went, Readable, Led-from, Skipped, Stayed, Stayed-one, led-to};
+ghost use Rattle.finder.specs.Inside.{Sized, Coded, Shaped, target-of, Sought-by, Went, Readable, Led-from, Begun, Running, Ran-from, Skipped, Stayed};
+ghost use Rattle.finder.specs.Inside.{Stayed-one, led-to};
 use automaton::Arrow;
 use automaton::Step;
 use runs::Ending;
+use sheets::number_width;
+use sheets::pair;
 use sheets::wide;
 
 mod piece;
@@ -62,38 +65,49 @@ pub struct Feeding {
     pub ending: Ending,
 }
 
-// READING A SHEET: only the next four functions know where its bytes are, and what they tell is told of the code.
+// READING A SHEET: only the next three functions know where its bytes are, and what they tell is told of the code.
 
 // The code's length.
 fn code_length(sheet: &[u8]) -> usize
     requires { ⌜ begins (now sheet) ≡ true ⌝ }
     ensures { λ r. ⌜ (r ≡ length (named (now (sheet .entry)))) × (r ≤ longest-code) ⌝ }
 {
+    if sheet[0] == 0 {
+        return pair(sheet[1], sheet[2]);
+    }
     wide(sheet[0])
 }
 
-// The label of an arrow with target t.
-fn label(sheet: &[u8], t: usize) -> u8
-    requires { ⌜ (begins (now sheet) ≡ true) × (1 ≤ t) × (t ≤ length (named (now sheet))) ⌝ }
-    ensures { λ r. ⌜ r ≡ label (named (now (sheet .entry))) t ⌝ }
-{
-    sheet[t]
-}
-
-// How many backward targets the states below s have, s being 1 or more, for a code of m bytes: the number of the first one of s.
-fn targets_below(sheet: &[u8], m: usize, s: usize) -> usize
-    requires { ⌜ Sized (now sheet) m × (1 ≤ s) × (s ≤ m + 1) ⌝ }
+// How many backward targets the states below s have, s being 1 or more: the number of the first one of s. The code has m bytes, and a number `width`.
+fn targets_below(sheet: &[u8], m: usize, width: usize, s: usize) -> usize
+    requires { ⌜ Sized (now sheet) m width × (1 ≤ s) × (s ≤ m + 1) ⌝ }
     ensures { λ r. ⌜ (r ≡ arrows-below (named (now (sheet .entry))) s) × (r ≤ longest-code) ⌝ }
 {
-    wide(sheet[m + s])
+    if width == 1 {
+        return wide(sheet[m + s]);
+    }
+    let at = m + 1 + 2 * s;
+    pair(sheet[at], sheet[at + 1])
 }
 
 // Target number l of all the code's, from 0.
-fn target(sheet: &[u8], m: usize, l: usize) -> usize
-    requires { ⌜ Sized (now sheet) m × (l < back-arrows (named (now sheet))) ⌝ }
+fn target(sheet: &[u8], m: usize, width: usize, l: usize) -> usize
+    requires { ⌜ Sized (now sheet) m width × (l < back-arrows (named (now sheet))) ⌝ }
     ensures { λ r. ⌜ r ≡ target-of (named (now (sheet .entry))) l ⌝ }
 {
-    wide(sheet[2 * m + 2 + l])
+    if width == 1 {
+        return wide(sheet[2 * m + 2 + l]);
+    }
+    let at = 3 * m + 5 + 2 * l;
+    pair(sheet[at], sheet[at + 1])
+}
+
+// The label of an arrow with target t.
+fn label(code: &[u8], t: usize) -> u8
+    requires { ⌜ (1 ≤ t) × (t ≤ length (now code)) ⌝ }
+    ensures { λ r. ⌜ r ≡ label (now (code .entry)) t ⌝ }
+{
+    code[t - 1]
 }
 
 // ONE BYTE: the labels of a state are compared with it.
@@ -105,13 +119,14 @@ enum Sought {
 }
 
 // The first of the targets from number `start` up to `end` whose label is the byte. Each turn compares one label.
-fn backward(sheet: &[u8], m: usize, start: usize, end: usize, byte: u8) -> Sought
-    requires { ⌜ Sized (now sheet) m × (start ≤ end) × (end ≤ back-arrows (named (now sheet))) ⌝ }
-    ensures { λ r. ⌜ Sought-by (named (now (sheet .entry))) start end byte r ⌝ }
+fn backward(sheet: &[u8], code: &[u8], width: usize, start: usize, end: usize, byte: u8) -> Sought
+    requires { ⌜ Shaped (now sheet) (now code) width × (start ≤ end) × (end ≤ back-arrows (now code)) ⌝ }
+    ensures { λ r. ⌜ Sought-by (now (code .entry)) start end byte r ⌝ }
 {
+    let m = code.len();
     let mut l = start;
     while l < end {
-        if label(sheet, target(sheet, m, l)) == byte {
+        if byte == label(code, target(sheet, m, width, l)) {
             return Sought::At(l);
         }
         l += 1;
@@ -120,12 +135,12 @@ fn backward(sheet: &[u8], m: usize, start: usize, end: usize, byte: u8) -> Sough
 }
 
 // The forward arrow of p, after `cost` labels were compared.
-fn forward_step(sheet: &[u8], m: usize, p: usize, byte: u8, cost: u32) -> Step
-    requires { ⌜ Sized (now sheet) m × (p ≤ m) × (cost ≤ longest-code) ⌝ }
-    ensures { λ r. ⌜ r ≡ try-forward cost (named (now (sheet .entry))) p byte ⌝ }
+fn forward_step(code: &[u8], p: usize, byte: u8, cost: u32) -> Step
+    requires { ⌜ (length (now code) ≤ longest-code) × (p ≤ length (now code)) × (cost ≤ longest-code) ⌝ }
+    ensures { λ r. ⌜ r ≡ try-forward cost (now (code .entry)) p byte ⌝ }
 {
-    if p < m {
-        if label(sheet, p + 1) == byte {
+    if p < code.len() {
+        if label(code, p + 1) == byte {
             return Step {
                 state: (p + 1) as u32,
                 cost: cost + 1,
@@ -146,22 +161,24 @@ fn forward_step(sheet: &[u8], m: usize, p: usize, byte: u8, cost: u32) -> Step
 }
 
 // The step from a state p of 1 or more: backward labels by falling target, then the forward one.
-fn follow(sheet: &[u8], m: usize, p: usize, byte: u8) -> Step
-    requires { ⌜ Sized (now sheet) m × (1 ≤ p) × (p ≤ m) ⌝ }
-    ensures { λ r. ⌜ r ≡ stepped (named (now (sheet .entry))) p byte ⌝ }
+fn follow(sheet: &[u8], code: &[u8], p: usize, byte: u8) -> Step
+    requires { ⌜ Coded (now sheet) (now code) × (1 ≤ p) × (p ≤ length (now code)) ⌝ }
+    ensures { λ r. ⌜ r ≡ stepped (now (code .entry)) p byte ⌝ }
 {
-    let start = targets_below(sheet, m, p);
-    let end = targets_below(sheet, m, p + 1);
-    let sought = backward(sheet, m, start, end, byte);
+    let m = code.len();
+    let width = number_width(m);
+    let start = targets_below(sheet, m, width, p);
+    let end = targets_below(sheet, m, width, p + 1);
+    let sought = backward(sheet, code, width, start, end, byte);
     if let Sought::At(l) = sought {
-        let t = target(sheet, m, l) as u32;
+        let t = target(sheet, m, width, l) as u32;
         return Step {
             state: t,
             cost: (l - start + 1) as u32,
             arrow: Arrow::Back(t),
         };
     }
-    forward_step(sheet, m, p, byte, (end - start) as u32)
+    forward_step(code, p, byte, (end - start) as u32)
 }
 
 // MANY BYTES: where they lead, and what they cost. No byte is compared twice with one label.
@@ -183,26 +200,27 @@ struct Ahead {
 
 // From a state between 0 and m, as long as forward arrows are followed. The targets of a state end where those of the next begin, so the comparisons need no
 // count of their own: worst cases are about 1.4 times as fast as with one.
-fn go_ahead(sheet: &[u8], m: usize, p: usize, piece: &[u8], i: usize) -> Ahead
-    requires { ⌜ Readable (now sheet) m p (now piece) i × (1 ≤ p) × (p < m) ⌝ }
-    ensures { λ r. ⌜ Went (named (now (sheet .entry))) (now (piece .entry)) p i r ⌝ }
+fn go_ahead(sheet: &[u8], code: &[u8], width: usize, p: usize, piece: &[u8], i: usize) -> Ahead
+    requires { ⌜ Readable (now sheet) (now code) p (now piece) i × (width ≡ number-width (length (now code))) × (1 ≤ p) × (p < length (now code)) ⌝ }
+    ensures { λ r. ⌜ Went (now (code .entry)) (now (piece .entry)) p i r ⌝ }
 {
-    let start = targets_below(sheet, m, p);
+    let m = code.len();
+    let start = targets_below(sheet, m, width, p);
     let count = least(piece.len() - i, m - p);
     let mut l = start;
     let mut j = 0;
     while j < count {
         let byte = piece[i + j];
-        let end = targets_below(sheet, m, p + j + 1);
-        let sought = backward(sheet, m, l, end, byte);
+        let end = targets_below(sheet, m, width, p + j + 1);
+        let sought = backward(sheet, code, width, l, end, byte);
         if let Sought::At(b) = sought {
             return Ahead {
                 bytes: j,
                 failed: b - start,
-                arrow: Arrow::Back(target(sheet, m, b) as u32),
+                arrow: Arrow::Back(target(sheet, m, width, b) as u32),
             };
         }
-        if label(sheet, p + j + 1) != byte {
+        if label(code, p + j + 1) != byte {
             return Ahead {
                 bytes: j,
                 failed: end - start,
@@ -227,11 +245,11 @@ struct Led {
 }
 
 // From a state between 0 and m: forward arrows, and the byte, if one is looked at, that does not follow one.
-fn stretch(sheet: &[u8], m: usize, p: usize, piece: &[u8], i: usize) -> Led
-    requires { ⌜ Readable (now sheet) m p (now piece) i × (1 ≤ p) × (p < m) ⌝ }
-    ensures { λ r. ⌜ Led-from (named (now (sheet .entry))) (now (piece .entry)) p i r ⌝ }
+fn stretch(sheet: &[u8], code: &[u8], width: usize, p: usize, piece: &[u8], i: usize) -> Led
+    requires { ⌜ Readable (now sheet) (now code) p (now piece) i × (width ≡ number-width (length (now code))) × (1 ≤ p) × (p < length (now code)) ⌝ }
+    ensures { λ r. ⌜ Led-from (now (code .entry)) (now (piece .entry)) p i r ⌝ }
 {
-    let r = go_ahead(sheet, m, p, piece, i);
+    let r = go_ahead(sheet, code, width, p, piece, i);
     let n = r.bytes;
     let cost = (r.failed + n) as u64;
     let arrow = r.arrow;
@@ -254,17 +272,17 @@ fn stretch(sheet: &[u8], m: usize, p: usize, piece: &[u8], i: usize) -> Led
     }
 }
 
-// From a state of 1 or more: one step, and on as long as the state is neither 0 nor m and bytes are left.
-fn walk(sheet: &[u8], m: usize, p: usize, piece: &[u8], from: usize) -> Led
-    requires { ⌜ Readable (now sheet) m p (now piece) from × (1 ≤ p) ⌝ }
-    ensures { λ r. ⌜ Led-from (named (now (sheet .entry))) (now (piece .entry)) p from r ⌝ }
+// From any state, as long as it is neither 0 nor m and bytes are left; that may be none.
+fn run_by(sheet: &[u8], code: &[u8], width: usize, p: usize, piece: &[u8], from: usize) -> Led
+    requires { ⌜ Running (now sheet) (now code) p (now piece) from × (width ≡ number-width (length (now code))) ⌝ }
+    ensures { λ r. ⌜ Ran-from (now (code .entry)) (now (piece .entry)) p from r ⌝ }
 {
-    let first = follow(sheet, m, p, piece[from]);
-    let mut state = first.state as usize;
-    let mut cost = first.cost as u64;
-    let mut i = from + 1;
+    let m = code.len();
+    let mut state = p;
+    let mut cost: u64 = 0;
+    let mut i = from;
     while i < piece.len() && 0 < state && state < m {
-        let s = stretch(sheet, m, state, piece, i);
+        let s = stretch(sheet, code, width, state, piece, i);
         state = s.state;
         cost += s.cost;
         i = s.at;
@@ -274,6 +292,18 @@ fn walk(sheet: &[u8], m: usize, p: usize, piece: &[u8], from: usize) -> Led
         cost: cost,
         at: i,
     }
+}
+
+// The same, by the code's length. Each call names the width, so that the compiler makes a loop for each: with the width as a variable worst cases were
+// about 0.6 times as fast.
+fn run(sheet: &[u8], code: &[u8], p: usize, piece: &[u8], from: usize) -> Led
+    requires { ⌜ Running (now sheet) (now code) p (now piece) from ⌝ }
+    ensures { λ r. ⌜ Ran-from (now (code .entry)) (now (piece .entry)) p from r ⌝ }
+{
+    if number_width(code.len()) == 1 {
+        return run_by(sheet, code, 1, p, piece, from);
+    }
+    run_by(sheet, code, 2, p, piece, from)
 }
 
 // The first index from one on at which a byte stands, or the end: one comparison for each byte passed, and one for the byte found.
@@ -333,14 +363,14 @@ fn stay(piece: &[u8], from: usize, byte: u8) -> usize
 
 // In state 1, below m: the first index from one on whose byte follows no backward arrow, or the end. Such an arrow leads to 1 again, on the code's first
 // byte; where that is the forward label too, there is none, and no byte is compared.
-fn stay_one(sheet: &[u8], m: usize, piece: &[u8], from: usize) -> usize
-    requires { ⌜ Sized (now sheet) m × (2 ≤ m) × (from ≤ length (now piece)) ⌝ }
-    ensures { λ r. ⌜ Stayed-one (named (now (sheet .entry))) (now (piece .entry)) from r ⌝ }
+fn stay_one(code: &[u8], back: usize, piece: &[u8], from: usize) -> usize
+    requires { ⌜ (2 ≤ length (now code)) × (back ≡ arrows-below (now code) 2) × (from ≤ length (now piece)) ⌝ }
+    ensures { λ r. ⌜ Stayed-one (now (code .entry)) (now (piece .entry)) from r ⌝ }
 {
-    if targets_below(sheet, m, 2) == 0 {
+    if back == 0 {
         return from;
     }
-    stay(piece, from, label(sheet, 1))
+    stay(piece, from, label(code, 1))
 }
 
 // The bytes from one index to another have led to a state: one comparison for each, and those that failed besides.
@@ -357,40 +387,68 @@ fn led_to(state: usize, from: usize, at: usize, failed: usize) -> Led
 
 // From state 0, and on as long as no byte leads past state 1 or completes the code: up to 1.5 times as fast on plan text as with a turn for each first byte of
 // the code. A byte costs one comparison, and where it leaves state 1 the backward labels of 1 have failed too.
-fn from_start(sheet: &[u8], m: usize, piece: &[u8], from: usize) -> Led
-    requires { ⌜ Readable (now sheet) m 0 (now piece) from ⌝ }
-    ensures { λ r. ⌜ Led-from (named (now (sheet .entry))) (now (piece .entry)) 0 from r ⌝ }
+fn from_start(sheet: &[u8], code: &[u8], piece: &[u8], from: usize) -> Led
+    requires { ⌜ Readable (now sheet) (now code) 0 (now piece) from ⌝ }
+    ensures { λ r. ⌜ Led-from (now (code .entry)) (now (piece .entry)) 0 from r ⌝ }
 {
+    let m = code.len();
+    let back = targets_below(sheet, m, number_width(m), 2);
     let mut failed = 0;
     let mut i = from;
     while i < piece.len() {
-        let j = skip(piece, i, label(sheet, 1));
+        let j = skip(piece, i, label(code, 1));
         if j == piece.len() {
             return led_to(0, from, j, failed);
         }
         if m == 1 {
             return led_to(1, from, j + 1, failed);
         }
-        let k = stay_one(sheet, m, piece, j + 1);
+        let k = stay_one(code, back, piece, j + 1);
         if k == piece.len() {
             return led_to(1, from, k, failed);
         }
-        failed += targets_below(sheet, m, 2);
+        failed += back;
         i = k + 1;
-        if piece[k] == label(sheet, 2) {
+        if piece[k] == label(code, 2) {
             return led_to(2, from, i, failed);
         }
     }
     led_to(0, from, i, failed)
 }
 
-// From any state: some bytes, no further than the first place that is completed.
-fn advance(sheet: &[u8], m: usize, p: usize, piece: &[u8], i: usize) -> Led
-    requires { ⌜ Readable (now sheet) m p (now piece) i ⌝ }
-    ensures { λ r. ⌜ Led-from (named (now (sheet .entry))) (now (piece .entry)) p i r ⌝ }
+// How the bytes from any state begin: from 0 as far as `from_start` goes, from m with one step. Elsewhere none is taken yet.
+fn begin(sheet: &[u8], code: &[u8], p: usize, piece: &[u8], i: usize) -> Led
+    requires { ⌜ Readable (now sheet) (now code) p (now piece) i ⌝ }
+    ensures { λ r. ⌜ Begun (now (code .entry)) (now (piece .entry)) p i r ⌝ }
 {
     if p == 0 {
-        return from_start(sheet, m, piece, i);
+        return from_start(sheet, code, piece, i);
     }
-    walk(sheet, m, p, piece, i)
+    if p == code.len() {
+        let s = follow(sheet, code, p, piece[i]);
+        return Led {
+            state: s.state as usize,
+            cost: s.cost as u64,
+            at: i + 1,
+        };
+    }
+    Led {
+        state: p,
+        cost: 0,
+        at: i,
+    }
+}
+
+// From any state: some bytes, no further than the first place that is completed.
+fn advance(sheet: &[u8], code: &[u8], p: usize, piece: &[u8], i: usize) -> Led
+    requires { ⌜ Readable (now sheet) (now code) p (now piece) i ⌝ }
+    ensures { λ r. ⌜ Led-from (now (code .entry)) (now (piece .entry)) p i r ⌝ }
+{
+    let s = begin(sheet, code, p, piece, i);
+    let r = run(sheet, code, s.state, piece, s.at);
+    Led {
+        state: r.state,
+        cost: s.cost + r.cost,
+        at: r.at,
+    }
 }

@@ -1,14 +1,12 @@
 // Feeding: one pass over a piece of text, from the watch answered before to the next one, and the places in a list.
 ghost use mathlib.Core.Path.{_≡_};
-ghost use mathlib.Core.Bool.{true};
 ghost use mathlib.Core.List.{[], _∷_};
 ghost use lib.ListN.{length};
 ghost use Rattle.words.specs.Words.{same};
 ghost use Rattle.automaton.specs.Arrows.{back-targets};
-ghost use Rattle.sheets.specs.Sheet.{named, begins};
 ghost use Rattle.finder.specs.Feed.{fit};
 ghost use Rattle.finder.specs.Entry.{lent, feed-refusal, Feed-says};
-ghost use Rattle.finder.specs.Inside.{Sized, Ready, Placing, Placed, Repeating, Repeated, Turning, Turned, Took};
+ghost use Rattle.finder.specs.Inside.{Coded, Ready, Placing, Placed, Repeating, Repeated, Turning, Turned, Took};
 use crate::Feeding;
 use crate::Led;
 use crate::Watch;
@@ -19,7 +17,9 @@ use crate::least;
 use crate::target;
 use crate::targets_below;
 use runs::Ending;
+use sheets::code_start;
 use sheets::is_sheet;
+use sheets::number_width;
 
 // Where a turn of the loop over a piece has come to: the state, what its bytes cost, the index behind them, and the places written so far.
 struct Turn {
@@ -48,15 +48,17 @@ fn write_place(m: usize, before: u32, s: Led, places: &mut [u32], k: usize) -> T
 }
 
 // Whether state m has one backward arrow alone, and it leads to m again.
-fn has_own_arrow(sheet: &[u8], m: usize) -> bool
-    requires { ⌜ Sized (now sheet) m ⌝ }
-    ensures { λ r. ⌜ r ≡ same (back-targets (named (now (sheet .entry))) m) (m ∷ []) ⌝ }
+fn has_own_arrow(sheet: &[u8], code: &[u8]) -> bool
+    requires { ⌜ Coded (now sheet) (now code) ⌝ }
+    ensures { λ r. ⌜ r ≡ same (back-targets (now (code .entry)) (length (now (code .entry)))) (length (now (code .entry)) ∷ []) ⌝ }
 {
-    let start = targets_below(sheet, m, m);
-    if targets_below(sheet, m, m + 1) - start != 1 {
+    let m = code.len();
+    let width = number_width(m);
+    let start = targets_below(sheet, m, width, m);
+    if targets_below(sheet, m, width, m + 1) - start != 1 {
         return false;
     }
-    target(sheet, m, start) == m
+    target(sheet, m, width, start) == m
 }
 
 // How many of the next `count` bytes are `byte`, in a row: a comparison for each and one for the byte behind them, if it is looked at. For each a place is
@@ -87,20 +89,23 @@ fn repeat(
 // A turn from state m where its one arrow leads to m again: the bytes that follow it, a place each, and the one that leads to 0, if it is looked at. Long rows
 // of one byte are about 4 times as fast by it.
 fn from_whole(
-    sheet: &[u8],
-    m: usize,
+    code: &[u8],
     before: u32,
     piece: &[u8],
     i: usize,
     places: &mut [u32],
     k: usize,
 ) -> Turn
-    requires { ⌜ Turning (now sheet) m before m (now piece) i (now places) k × (back-targets (named (now sheet)) m ≡ m ∷ []) ⌝ }
-    ensures { λ r. ⌜ Turned (named (now (sheet .entry))) (now (piece .entry)) before m i k (now (places .entry)) r (now (places .exit)) ⌝ }
+    requires { ⌜
+        Turning (now code) before (length (now code)) (now piece) i (now places) k
+        × (back-targets (now code) (length (now code)) ≡ length (now code) ∷ []) ⌝ }
+    ensures { λ r. ⌜
+        Turned (now (code .entry)) (now (piece .entry)) before (length (now (code .entry))) i k (now (places .entry)) r (now (places .exit)) ⌝ }
 {
+    let m = code.len();
     let last = before + (i as u32) - (m as u32);
     let count = least(piece.len() - i, places.len() - k);
-    let n = repeat(piece, i, count, label(sheet, m), places, k, last);
+    let n = repeat(piece, i, count, label(code, m), places, k, last);
     if n < count {
         return Turn {
             state: 0,
@@ -120,7 +125,7 @@ fn from_whole(
 // One turn.
 fn take_turn(
     sheet: &[u8],
-    m: usize,
+    code: &[u8],
     before: u32,
     p: usize,
     piece: &[u8],
@@ -128,29 +133,28 @@ fn take_turn(
     places: &mut [u32],
     k: usize,
 ) -> Turn
-    requires { ⌜ Turning (now sheet) m before p (now piece) i (now places) k ⌝ }
-    ensures { λ r. ⌜ Turned (named (now (sheet .entry))) (now (piece .entry)) before p i k (now (places .entry)) r (now (places .exit)) ⌝ }
+    requires { ⌜ Coded (now sheet) (now code) × Turning (now code) before p (now piece) i (now places) k ⌝ }
+    ensures { λ r. ⌜ Turned (now (code .entry)) (now (piece .entry)) before p i k (now (places .entry)) r (now (places .exit)) ⌝ }
 {
-    if p == m && has_own_arrow(sheet, m) {
-        return from_whole(sheet, m, before, piece, i, places, k);
+    let m = code.len();
+    if p == m && has_own_arrow(sheet, code) {
+        return from_whole(code, before, piece, i, places, k);
     }
-    write_place(m, before, advance(sheet, m, p, piece, i), places, k)
+    write_place(m, before, advance(sheet, code, p, piece, i), places, k)
 }
 
 // The bytes of a piece, until it ends or the list is full. From turn to turn only the state, the cost and the two counts are kept: the whole watch, carried
 // along, was slower.
-fn take_bytes(sheet: &[u8], watch: Watch, piece: &[u8], places: &mut [u32]) -> Feeding
-    requires { ⌜ (begins (now sheet) ≡ true) × Ready (length (named (now sheet))) watch (length (now piece)) ⌝ }
-    ensures { λ r. ⌜
-        Took (named (now (sheet .entry))) watch (lent (now (piece .entry)) (now (places .entry))) r (lent (now (piece .exit)) (now (places .exit))) ⌝ }
+fn take_bytes(sheet: &[u8], code: &[u8], watch: Watch, piece: &[u8], places: &mut [u32]) -> Feeding
+    requires { ⌜ Coded (now sheet) (now code) × Ready (length (now code)) watch (length (now piece)) ⌝ }
+    ensures { λ r. ⌜ Took (now (code .entry)) watch (lent (now (piece .entry)) (now (places .entry))) r (lent (now (piece .exit)) (now (places .exit))) ⌝ }
 {
-    let m = code_length(sheet);
     let mut state = watch.state as usize;
     let mut cost: u64 = 0;
     let mut i = 0;
     let mut k = 0;
     while i < piece.len() && k < places.len() {
-        let t = take_turn(sheet, m, watch.taken, state, piece, i, places, k);
+        let t = take_turn(sheet, code, watch.taken, state, piece, i, places, k);
         state = t.state;
         cost += t.cost;
         i = t.at;
@@ -225,5 +229,8 @@ pub fn feed(sheet: &[u8], watch: Watch, piece: &[u8], places: &mut [u32]) -> Fee
             ending: Ending::Refused(refusal),
         };
     }
-    take_bytes(sheet, watch, piece, places)
+    let m = code_length(sheet);
+    let start = code_start(m);
+    let code = &sheet[start..start + m];
+    take_bytes(sheet, code, watch, piece, places)
 }

@@ -8,19 +8,13 @@ use crate::ended;
 use crate::is_list;
 use crate::none;
 use crate::part;
+use crate::put;
 use crate::same_bytes;
 use crate::sum;
 use finder::Watch;
 
 // What is tried for each byte: codes of 1 to 5 bytes, which are the starts of this one with the byte at an index.
 const LETTERS: [u8; 5] = [97, 98, 97, 97, 98];
-
-// Puts a byte at an index, if there is one.
-fn put(bytes: &mut [u8], i: usize, byte: u8) {
-    if i < bytes.len() {
-        bytes[i] = byte;
-    }
-}
 
 // Whether preparing and the byte ceiling refuse a code with a number, 0 for none; whether `has_control` agrees; and whether the buffer is changed only
 // if there is no refusal.
@@ -93,7 +87,7 @@ fn found_in_text() -> bool {
 pub fn controls() -> Tally
     ensures { λ r. ⌜ r .wrong ≤ r .run ⌝ }
 {
-    let long = [31u8; 256];
+    let long = [31u8; 4001];
     let mut t = none();
     t = add(t, in_every_code(13, 4, 0));
     t = add(t, in_every_code(13, 4, 10));
@@ -103,7 +97,7 @@ pub fn controls() -> Tally
     t = add(t, in_every_code(0, 0, 127));
     t = add(t, in_every_code(0, 0, 255));
     t = add(t, is_first(13, b"a\x0a"));
-    t = add(t, is_first(13, &long[..255]));
+    t = add(t, is_first(13, &long[..4000]));
     t = add(t, is_first(2, &long));
     t = add(t, is_first(3, b"a "));
     add(t, found_in_text())

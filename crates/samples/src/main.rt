@@ -1,8 +1,9 @@
-// Document 01's own samples, run: its bench samples, its refusals, and its errors near at hand, through the library's entry points; and the control bytes
-// of request 107. Each function here is proved safe and ending; what it answers is seen by running it. tests/beside.c holds the library to a naive search
+// Document 01's own samples, run: its bench samples, its refusals, and its errors near at hand, through the library's entry points; the control bytes of
+// request 107 and the lengths of request 103. Each function here is proved safe and ending; what it answers is seen by running it. tests/beside.c holds the library to a naive search
 // and to the document's machine, on many more codes and texts.
 mod bench;
 mod controls;
+mod lengths;
 mod refusals;
 
 ghost use Prim.Native.Nat.{_≤_};
@@ -88,6 +89,13 @@ fn at(s: &[u8], i: usize) -> u8 {
     0
 }
 
+// Puts a byte at an index, if there is one.
+fn put(bytes: &mut [u8], i: usize, byte: u8) {
+    if i < bytes.len() {
+        bytes[i] = byte;
+    }
+}
+
 // The place at an index of a list, the largest number behind its end.
 fn place_at(list: &[u32], i: usize) -> usize {
     if i < list.len() {
@@ -168,15 +176,18 @@ fn main() {
     let refused = refusals::refused();
     let accepted = refusals::accepted();
     let controls = controls::controls();
+    let lengths = lengths::lengths();
     print(b"sheets", sheets);
     print(b"searches", searches);
     print(b"errors near at hand", errors);
     print(b"refused", refused);
     print(b"accepted on the other side", accepted);
     print(b"control bytes", controls);
+    print(b"lengths", lengths);
     let bench = sum(sum(sheets.wrong, searches.wrong), errors.wrong);
-    let refusals = sum(sum(refused.wrong, accepted.wrong), controls.wrong);
-    let wrong = sum(bench, refusals);
+    let refusals = sum(refused.wrong, accepted.wrong);
+    let requests = sum(controls.wrong, lengths.wrong);
+    let wrong = sum(sum(bench, refusals), requests);
     io::write_all(1, b"wrong ");
     io::print_decimal(1, wrong as u64);
     io::write_all(1, b"\n");

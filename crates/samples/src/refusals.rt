@@ -22,9 +22,9 @@ const WRONG: [u8; 5] = [1, 97, 0, 1, 2];
 
 // Whether preparing in so many bytes is refused with a number, and the buffer is as before.
 fn prepare_refuses(number: u32, code: &[u8], room: usize) -> bool {
-    let mut buffer = [UNTOUCHED; 767];
+    let mut buffer = [UNTOUCHED; 20005];
     let a = prepare_in(code, &mut buffer, room);
-    (a.refusal() == number) & same_bytes(&buffer, &[UNTOUCHED; 767])
+    (a.refusal() == number) & same_bytes(&buffer, &[UNTOUCHED; 20005])
 }
 
 // Whether preparing in so many bytes answers a length, and the byte behind it is as before.
@@ -71,16 +71,16 @@ fn refused_codes(before: Tally) -> Tally
     requires { ⌜ before .wrong ≤ before .run ⌝ }
     ensures { λ r. ⌜ r .wrong ≤ r .run ⌝ }
 {
-    let many = [97u8; 256];
+    let many = [97u8; 4001];
     let mut t = before;
-    t = add(t, prepare_refuses(1, b"", 767));
+    t = add(t, prepare_refuses(1, b"", 20005));
     t = add(t, prepare_refuses(1, b"", 0));
     t = add(t, codes::byte_ceiling(b"").refusal() == 1);
     t = add(t, codes::total_ceiling(0, 1).refusal() == 1);
-    t = add(t, prepare_refuses(2, &many, 767));
+    t = add(t, prepare_refuses(2, &many, 20005));
     t = add(t, prepare_refuses(2, &many, 0));
     t = add(t, codes::byte_ceiling(&many).refusal() == 2);
-    t = add(t, codes::total_ceiling(256, 1).refusal() == 2);
+    t = add(t, codes::total_ceiling(4001, 1).refusal() == 2);
     t = add(t, codes::total_ceiling(4294967295, 0).refusal() == 2);
     t = add(t, prepare_refuses(3, b"aab", 10));
     t = add(t, prepare_refuses(3, b"aab", 0));
@@ -151,7 +151,7 @@ fn accepted_codes() -> Tally
     let mut t = none();
     t = add(
         t,
-        (Watch::LONGEST_CODE == 255) & (Watch::LONGEST_TEXT == 4294967295),
+        (Watch::LONGEST_CODE == 4000) & (Watch::LONGEST_TEXT == 4294967295),
     );
     t = add(t, same_watch(Watch::open(), watch_of(0, 0, 0, 0)));
     t = add(t, prepare_answers(513, &many, 767));

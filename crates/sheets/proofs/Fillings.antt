@@ -1,10 +1,10 @@
 -- A buffer that is filled at two places: cs at its start, ts from place n on. Assumes nothing.
 use mathlib.Core.Path.{_≡_, refl, sym, ap, _∙_}
-use mathlib.Core.List.{List, [], _∷_, _++_, append-assoc}
-use Prim.Native.Nat.{ℕ, suc, _+_, _-_, _≤_, _<_}
+use mathlib.Core.List.{List, [], _∷_, _++_, append-assoc, append-nil}
+use Prim.Native.Nat.{ℕ, suc, _+_, _≤_, _<_}
 use native.Mathlib.Omega.{arith}
-use lib.ListN.{length, getD, take, drop, set, length-set, length-append, length-drop, take-append-drop}
-use lib.Seq.{take-set-le, drop-set-lt, drop-set-add, take-suc-set, getD-take, getD-drop, drop-drop}
+use lib.ListN.{length, take, drop, set, length-set, length-append, length-drop, take-append-drop}
+use lib.Seq.{take-append-le, drop-append-le, sets, take-set-le, drop-set-lt, drop-set-add, take-suc-set, drop-drop, append-snoc}
 use Rattle.words.specs.Words.{in-front}
 use Rattle.words.proofs.Lists.{length-snoc, drop-more}
 use Rattle.sheets.specs.Inside.{Filling}
@@ -26,15 +26,22 @@ fill-on {n} {cs} {ds} {ts} {us} {a} {b} {d} f g l =
       long = g .long ∙ f .long;
     }
 
+-- READING the bytes that it has
+part-in : (cs b : List ℕ) (i k : ℕ) → take (length cs) b ≡ cs → i + k ≤ length cs → take k (drop i b) ≡ take k (drop i cs)
+part-in cs b i k e l =
+    let rest : List ℕ = drop (length cs) b in
+    let split : b ≡ cs ++ rest = sym (take-append-drop (length cs) b) ∙ ap (λ (z : List ℕ). z ++ rest) e in
+    ap (λ (z : List ℕ). take k (drop i z)) split ∙ ap (take k) (drop-append-le i cs rest (omega arith))
+    ∙ take-append-le k (drop i cs) rest (simp length-drop (omega arith))
+
 module _ {n : ℕ} {cs ts a b : List ℕ} (f : Filling n cs ts a b) where
-  -- READING
-  pub front-at : (i : ℕ) → i < length cs → getD b i 0 ≡ getD cs i 0
-  front-at i l = sym (getD-take (length cs) b i 0 l) ∙ ap (λ (z : List ℕ). getD z i 0) (f .front)
+  pub front-part : (i k : ℕ) → i + k ≤ length cs → take k (drop i b) ≡ take k (drop i cs)
+  front-part i k l = part-in cs b i k (f .front) l
 
-  pub mid-at : (i : ℕ) → i < length ts → getD b (n + i) 0 ≡ getD ts i 0
-  mid-at i l = sym (getD-drop n b i 0) ∙ sym (getD-take (length ts) (drop n b) i 0 l) ∙ ap (λ (z : List ℕ). getD z i 0) (f .mid)
+  pub mid-part : (i k : ℕ) → i + k ≤ length ts → take k (drop (n + i) b) ≡ take k (drop i ts)
+  mid-part i k l = rw (← drop-drop i n b) (part-in ts (drop n b) i k (f .mid) l)
 
-  -- WRITING one more, in front and behind
+  -- WRITING one byte more, in front and behind
   pub put-front : (v : ℕ) → length cs < n → n ≤ length b → Filling n (cs ++ (v ∷ [])) ts a (set b (length cs) v)
   put-front v l h =
       record {
@@ -71,3 +78,21 @@ module _ {n : ℕ} {cs ts a b : List ℕ} (f : Filling n cs ts a b) where
       let rest : drop n b ≡ ts ++ drop (n + length ts) a =
       sym (take-append-drop (length ts) (drop n b)) ∙ rw (f .mid, drop-drop (length ts) n b, f .tail) in
       sym (take-append-drop (length cs) b) ∙ rw (f .front, e, rest, size, append-assoc cs ts (drop (n + length ts) a))
+
+-- several bytes more
+pub puts-front : {n : ℕ} {cs ts a b : List ℕ} (vs : List ℕ) → Filling n cs ts a b → length cs + length vs ≤ n → n ≤ length b →
+    Filling n (cs ++ vs) ts a (sets b (length cs) vs)
+puts-front {n} {cs} {ts} {a} {b} [] f l h = rw (append-nil cs) f
+puts-front {n} {cs} {ts} {a} {b} (v ∷ vs) f l h =
+    let one = put-front f v (omega arith) h in
+    rw (← append-snoc cs v vs, ← length-snoc cs v)
+    (puts-front vs one (omega (arith, length-snoc cs v)) (omega (arith, length-set b (length cs) v)))
+
+pub puts-mid : {n : ℕ} {cs ts a b : List ℕ} (vs : List ℕ) → Filling n cs ts a b → length cs ≤ n → n + length ts + length vs ≤ length b →
+    Filling n cs (ts ++ vs) a (sets b (n + length ts) vs)
+puts-mid {n} {cs} {ts} {a} {b} [] f l h = rw (append-nil ts) f
+puts-mid {n} {cs} {ts} {a} {b} (v ∷ vs) f l h =
+    let one = put-mid f v l (omega arith) in
+    let at : suc (n + length ts) ≡ n + length (ts ++ (v ∷ [])) = omega (arith, length-snoc ts v) in
+    rw (← append-snoc ts v vs, at)
+    (puts-mid vs one l (omega (arith, length-snoc ts v, length-set b (n + length ts) v)))

@@ -1,4 +1,5 @@
 pub mod Layouts
+pub mod Widths
 pub mod Sheets
 pub mod SameFronts
 pub mod Fillings

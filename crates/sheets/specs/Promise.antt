@@ -1,25 +1,42 @@
 -- What is promised of sheets. Each statement is a type; docs/PROOFS.md names its proof. Assumes nothing.
 use mathlib.Core.Path.{_≡_}
-use mathlib.Core.Bool.{true, not}
-use mathlib.Core.List.{List, _++_}
-use Prim.Native.Nat.{ℕ, _+_, _*_, _≤_}
+use mathlib.Core.Bool.{true, false, not}
+use mathlib.Core.List.{List, [], _∷_, _++_}
+use Prim.Native.Nat.{ℕ, suc, _+_, _*_, _/_, _%_, _≤_, _<_}
 use lib.ListN.{length, drop}
 use Rattle.words.specs.Words.{in-front}
-use Rattle.automaton.specs.Arrows.{back-arrows}
+use Rattle.automaton.specs.Arrows.{all-targets, back-arrows}
 use Rattle.codes.specs.Codes.{longest-code, has-control, accepted}
-use Rattle.sheets.specs.Sheet.{sheet, sheet-room, named, begins}
+use Rattle.sheets.specs.Sheet.{number, numbers, counts-below, layout, sheet, sheet-room, named, begins}
 use Rattle.sheets.specs.Entry.{prepare-refusal, prepare-buffer}
 
--- a sheet has 2m + 2 bytes and one for each backward arrow, which always fits its room
+-- BOTH LAYOUTS. Of a code of up to 255 bytes: its length, the code, the counts and the targets, all in single bytes; of a longer one: a 0 byte, its length in
+-- two bytes, the high byte first, the code, and the counts and the targets in two bytes each
+unfoldable pub Sheet-laid : Type 0
+Sheet-laid =
+    (w : List ℕ) → let counts = counts-below w (suc (length w)) in
+    (length w ≤ 255 → sheet w ≡ (length w ∷ w) ++ counts ++ all-targets w)
+    × (255 < length w → sheet w ≡ (0 ∷ length w / 256 ∷ length w % 256 ∷ w) ++ numbers 2 counts ++ numbers 2 (all-targets w))
+    × ((v : ℕ) → number 2 v ≡ v / 256 ∷ v % 256 ∷ [])
+
+-- their sizes, by the number of backward arrows; they always fit the room asked for
 unfoldable pub Sheet-sized : Type 0
 Sheet-sized =
-    (w : List ℕ) → (length (sheet w) ≡ 2 * length w + 2 + back-arrows w) × (length (sheet w) ≤ sheet-room (length w))
+    (w : List ℕ) →
+    (length w ≤ 255 → length (sheet w) ≡ 2 * length w + 2 + back-arrows w)
+    × (255 < length w → length (sheet w) ≡ 3 * length w + 5 + 2 * back-arrows w)
+    × (length (sheet w) ≤ sheet-room (length w))
 
 -- a sheet tells its code (`sheet` is injective): two codes have one sheet only if they are equal
 unfoldable pub Sheet-tells : Type 0
 Sheet-tells = (w v xs ys : List ℕ) → sheet w ++ xs ≡ sheet v ++ ys → w ≡ v
 
--- ACCEPTANCE: a buffer that begins with the sheet of a code of 1 to 255 bytes, whatever stands behind it, names that code and is accepted, with one
+-- and each code has one sheet: the wide layout of a code of up to 255 bytes is none
+unfoldable pub Sheet-once : Type 0
+Sheet-once =
+    (w rest : List ℕ) → length w ≤ 255 → begins (layout 2 (0 ∷ length w / 256 ∷ length w % 256 ∷ []) w ++ rest) ≡ false
+
+-- ACCEPTANCE: a buffer that begins with the sheet of a code of 1 to 4,000 bytes, whatever stands behind it, names that code and is accepted, with one
 -- exception: the code has a control byte, one below 32. And no other buffer is accepted
 unfoldable pub Begins-right : Type 0
 Begins-right =

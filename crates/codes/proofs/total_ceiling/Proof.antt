@@ -15,10 +15,10 @@ use Rattle.codes.proofs.total_ceiling.Tie as tie
 none : (c : tie.Else1) → length-refusal longest-code (c .before .before .args .m) ≡ 0
 none c = sym (c .before .length-refusal .ensures) ∙ c .if1 .left
 
--- a factor of ten bits and one of thirty-two
-product-fits : {k n : ℕ} → k < 1024 → n < 4294967296 → k * n < 18446744073709551616
+-- two factors of thirty-two bits
+product-fits : {k n : ℕ} → k < 4294967296 → n < 4294967296 → k * n < 18446744073709551616
 product-fits {k} {n} a b =
-    let bound : k * n ≤ 1024 * n = mul-le-mul-right n (omega arith) in
+    let bound : k * n ≤ 4294967296 * n = mul-le-mul-right n (omega arith) in
     omega arith
 
 cast-length-refusal : tie.Need-cast-length-refusal

@@ -1,19 +1,30 @@
--- `advance` meets its contract. By whether the state is 0. Assumes nothing.
+-- `advance` meets its contract. Assumes nothing.
+use Prim.Native.Nat.{_+_}
+use native.Mathlib.Omega.{arith}
+use Rattle.finder.specs.Inside.{Led-from}
+use Rattle.finder.proofs.Walking.{begun-running, begun-end}
 use borrow.Author.Needs.{needs}
 use Rattle.finder.proofs.advance.Statement.{statement}
 use Rattle.finder.proofs.advance.Tie as tie
 
-from-start-requires : tie.Need-from-start-requires
-from-start-requires c κs = rw (c .if1 .taken) at (c .before .before .before .pre)
+led : (c : tie.After-run) → let a = c .before .before .before .before .before .args in
+    let s = c .before .begin .result in
+    let r = c .run .result in Led-from (a .code .now) (a .piece .now) (a .p) (a .i) (record { state = r .state; cost = s .cost + r .cost; at = r .at })
+led c = let s = c .before .begin in begun-end (c .before .before .before .before .before .pre) (s .result) (s .ensures) (c .run .result) (c .run .ensures)
+
+begin-requires : tie.Need-begin-requires
+begin-requires c κs = search needs
+
+run-requires : tie.Need-run-requires
+run-requires c κs = begun-running (c .before .before .before .before .pre) (c .begin .result) (c .begin .ensures)
+
+add-t8 : tie.Need-add-t8
+add-t8 c =
+    let v = led (c .before .before) .leads in
+    omega (arith, v .cheap, v .on, v .within, c .before .before .before .before .before .before .before .pre .text)
 
 returns : tie.Need-returns
-returns c = rw (c .before .if1 .taken) (c .from-start .ensures)
-
-walk-requires : tie.Need-walk-requires
-walk-requires c κs = search needs
-
-returns-2 : tie.Need-returns-2
-returns-2 c = search needs
+returns c = led (c .before .before)
 
 pub advance-spec : {M : Type 1} → statement M
-advance-spec = tie.close (tie.spec from-start-requires returns walk-requires returns-2)
+advance-spec = tie.close (tie.spec begin-requires run-requires add-t8 returns)

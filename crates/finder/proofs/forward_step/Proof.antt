@@ -5,8 +5,6 @@ use native.Mathlib.Omega.{arith}
 use borrow.Author.Needs.{needs}
 use Rattle.automaton.proofs.Targets.{label-next}
 use Rattle.automaton.proofs.Steps.{forward-on, forward-off, forward-past}
-use Rattle.sheets.specs.Sheet.{named}
-use Rattle.sheets.proofs.Sheets.{begins-bounds}
 use Rattle.finder.proofs.forward_step.Statement.{statement}
 use Rattle.finder.proofs.forward_step.Tie as tie
 
@@ -20,7 +18,7 @@ add-t10 : tie.Need-add-t10
 add-t10 c = search needs
 
 cast-t11 : tie.Need-cast-t11
-cast-t11 c = let q = c .before .before .before .before .pre in omega (arith, q .0 .m-is, q .1, begins-bounds _ (q .0 .on))
+cast-t11 c = search needs
 
 add-t12 : tie.Need-add-t12
 add-t12 c = search needs
@@ -28,7 +26,7 @@ add-t12 c = search needs
 returns : tie.Need-returns
 returns c =
     let a = c .before .before .before .before .args in
-    let w = named (a .sheet .now) in
+    let w = a .code .now in
     rw (add-one, add-one)
     (sym (forward-on (a .cost) w (a .p) (a .byte) (omega arith) (sym (c .before .label .ensures ∙ label-next w (a .p)) ∙ c .if2 .taken)))
 
@@ -38,13 +36,13 @@ add-t14 c = search needs
 returns-2 : tie.Need-returns-2
 returns-2 c =
     let a = c .before .before .before .before .args in
-    let w = named (a .sheet .now) in
+    let w = a .code .now in
     rw add-one
     (sym
     (forward-off (a .cost) w (a .p) (a .byte) (omega arith) (λ e. c .if2 .left (c .before .label .ensures ∙ label-next w (a .p) ∙ e))))
 
 returns-3 : tie.Need-returns-3
-returns-3 c = let a = c .before .before .args in sym (forward-past (a .cost) (named (a .sheet .now)) (a .p) (a .byte) (omega arith))
+returns-3 c = let a = c .before .before .args in sym (forward-past (a .cost) (a .code .now) (a .p) (a .byte) (omega arith))
 
 pub forward-step-spec : {M : Type 1} → statement M
 forward-step-spec =

@@ -3,34 +3,44 @@ use mathlib.Core.Path.{_≡_, sym, _∙_}
 use Prim.Native.Nat.{_*_, _-_, _≤_, _<_}
 use native.Mathlib.Nat.{le-refl}
 use native.Mathlib.Omega.{arith}
+use borrow.Author.Needs.{needs}
 use lib.ListN.{length}
 use Rattle.runs.specs.Reading.{longest-text}
-use Rattle.automaton.specs.Arrows.{label, arrows}
+use Rattle.automaton.specs.Arrows.{label, arrows, arrows-below}
 use Rattle.automaton.proofs.Counts.{below-suc, below-one}
 use Rattle.codes.specs.Codes.{longest-code}
-use Rattle.sheets.specs.Sheet.{named}
-use Rattle.sheets.proofs.Sheets.{begins-bounds}
 use Rattle.finder.specs.Inside.{Skipped}
+use Rattle.finder.proofs.Coded.{coded-bounds, coded-sized, coded-count}
 use Rattle.finder.proofs.Starting.{Started, started, started-bounds, started-end, started-missed, started-first, started-stayed, started-two}
 use Rattle.finder.proofs.Starting.{started-again, led-as}
 use Rattle.finder.proofs.from_start.Statement.{statement}
 use Rattle.finder.proofs.from_start.Tie as tie
 
 abbrev Inv-loop : tie.InvT-loop
-Inv-loop sheet m piece from failed₀ i₀ failed i = Started sheet m piece from failed i
+Inv-loop sheet code piece from m back failed₀ i₀ failed i = Started sheet code piece from failed i
 
 abbrev μ-loop : tie.MeasureT-loop
-μ-loop sheet m piece from failed₀ i₀ failed i = length piece - i
+μ-loop sheet code piece from m back failed₀ i₀ failed i = length piece - i
+
+-- the backward arrows of state 1 were counted
+abbrev counted : tie.At-loop Inv-loop μ-loop → tie.After-targets-below Inv-loop μ-loop
+counted c = c .before
 
 abbrev entry : tie.At-loop Inv-loop μ-loop → tie.Start Inv-loop μ-loop
-entry c = c .before .before .before
+entry c = counted c .before .before .before .before .before
+
+back-is : (c : tie.At-loop Inv-loop μ-loop) → counted c .targets-below .result ≡ arrows-below (entry c .args .code .now) 2
+back-is c = coded-count (entry c .pre .sheet) _ _ (counted c .targets-below .ensures .0)
+
+failing : (c : tie.At-loop Inv-loop μ-loop) → counted c .targets-below .result ≡ arrows (entry c .args .code .now) 1
+failing c = let w = entry c .args .code .now in omega (arith, back-is c, below-suc w 1, below-one w)
 
 -- IN A TURN: the byte that is looked for is the first label
 abbrev turn : tie.After-skip Inv-loop μ-loop → tie.At-loop Inv-loop μ-loop
 turn c = c .before .before .before
 
 skipped : (c : tie.After-skip Inv-loop μ-loop) → let t = turn c in
-    let a = entry t .args in Skipped (a .piece .now) (t .loop .i) (label (named (a .sheet .now)) 1) (c .skip .result)
+    let a = entry t .args in Skipped (a .piece .now) (t .loop .i) (label (a .code .now) 1) (c .skip .result)
 skipped c = rw (c .before .label .ensures) at (c .skip .ensures)
 
 -- it is there
@@ -38,10 +48,8 @@ here : (c : tie.Else1 Inv-loop μ-loop) → c .before .skip .result < length (en
 here c = omega (arith, skipped (c .before) .within, c .if1 .left)
 
 -- in state 1, with m of 2 or more
-two : (c : tie.Else2 Inv-loop μ-loop) → 2 ≤ entry (turn (c .before .before)) .args .m
-two c =
-    let q = entry (turn (c .before .before)) .pre .sheet in
-    omega (arith, c .if2 .left, q .m-is, begins-bounds _ (q .on))
+two : (c : tie.Else2 Inv-loop μ-loop) → 2 ≤ length (entry (turn (c .before .before)) .args .code .now)
+two c = omega (arith, c .if2 .left, coded-bounds (entry (turn (c .before .before)) .pre .sheet) .0)
 
 there : (c : tie.Else3 Inv-loop μ-loop) → let s = c .before .before .before .before in
     c .before .stay-one .result < length (entry (turn s) .args .piece .now)
@@ -59,17 +67,19 @@ late : (c : tie.After-stay-one Inv-loop μ-loop) → let s = c .before .before .
     (entry (turn s) .args .from < c .stay-one .result) × (c .stay-one .result ≤ length (entry (turn s) .args .piece .now))
 late c = let s = c .before .before .before in let y = c .stay-one .ensures in (omega (arith, early s .0, y .passed .on), y .within)
 
-failing : (c : tie.After-targets-below Inv-loop μ-loop) → let s = c .before .before .before .before .before in
-    c .targets-below .result ≡ arrows (named (entry (turn s) .args .sheet .now)) 1
-failing c =
-    let w = named (entry (turn (c .before .before .before .before .before)) .args .sheet .now) in
-    omega (arith, c .targets-below .ensures .0, below-suc w 1, below-one w)
+number-width-requires : tie.Need-number-width-requires Inv-loop μ-loop
+number-width-requires c κs = search needs
+
+targets-below-requires : tie.Need-targets-below-requires Inv-loop μ-loop
+targets-below-requires c κs =
+    let g = c .before .before .before .before .pre .sheet in
+    (coded-sized g _ (c .number-width .ensures), omega arith, omega (arith, coded-bounds g .0))
 
 loop-holds : tie.Need-loop-holds Inv-loop μ-loop
-loop-holds c = started (c .before .before .pre)
+loop-holds c = started (c .before .before .before .before .before .pre)
 
 label-requires : tie.Need-label-requires Inv-loop μ-loop
-label-requires c κs = let b = entry (c .before) .pre .sheet .on in (b, le-refl 1, begins-bounds _ b .0)
+label-requires c κs = (le-refl 1, coded-bounds (entry (c .before) .pre .sheet) .0)
 
 skip-requires : tie.Need-skip-requires Inv-loop μ-loop
 skip-requires c κs = started-bounds (c .before .before .loop .inv) .1
@@ -98,7 +108,7 @@ add-stay-one : tie.Need-add-stay-one Inv-loop μ-loop
 add-stay-one c = let b = early (c .before .before) in omega (arith, b .1, b .3)
 
 stay-one-requires : tie.Need-stay-one-requires Inv-loop μ-loop
-stay-one-requires c κs = (entry (turn (c .before .before)) .pre .sheet, two c, omega (arith, here (c .before)))
+stay-one-requires c κs = (two c, back-is (turn (c .before .before)), omega (arith, here (c .before)))
 
 led-to-requires-3 : tie.Need-led-to-requires-3 Inv-loop μ-loop
 led-to-requires-3 c κs =
@@ -113,55 +123,53 @@ returns-3 c =
     let s = e .before .before in
     led-as _ _ (c .led-to3 .ensures) (started-stayed (turn s .loop .inv) _ (skipped s) (here (e .before)) (two e) _ (y .stay-one .ensures))
 
-targets-below-requires : tie.Need-targets-below-requires Inv-loop μ-loop
-targets-below-requires c κs =
-    let e = c .before .before in
-    (entry (turn (e .before .before)) .pre .sheet, omega arith, omega (arith, two e))
-
 add-failed : tie.Need-add-failed Inv-loop μ-loop
-add-failed c = let b = early (c .before .before .before .before .before) in omega (arith, c .targets-below .ensures .1, b .2, b .3)
+add-failed c =
+    let s = c .before .before .before .before in
+    let b = early s in
+    omega (arith, counted (turn s) .targets-below .ensures .1, b .2, b .3)
 
 add-i : tie.Need-add-i Inv-loop μ-loop
-add-i c = let b = early (c .before .before .before .before .before) in omega (arith, there (c .before), b .3)
+add-i c = omega (arith, there c, early (c .before .before .before .before) .3)
 
 shared-slice-read-if4 : tie.Need-shared-slice-read-if4 Inv-loop μ-loop
-shared-slice-read-if4 c = there (c .before .before)
+shared-slice-read-if4 c = there (c .before)
 
 label-requires-2 : tie.Need-label-requires-2 Inv-loop μ-loop
-label-requires-2 c κs =
-    let e = c .before .before .before .before in
-    let q = entry (turn (e .before .before)) .pre .sheet in
-    (q .on, omega arith, omega (arith, two e, q .m-is))
+label-requires-2 c κs = (omega arith, two (c .before .before .before))
 
 led-to-requires-4 : tie.Need-led-to-requires-4 Inv-loop μ-loop
 led-to-requires-4 c κs =
     let n = c .before .before .before in
-    let b = early (n .before .before .before .before .before) in
-    (omega (arith, late (n .before .before) .0), omega (arith, there (n .before), n .targets-below .ensures .1, b .2, b .3))
+    let s = n .before .before .before .before in
+    let b = early s in
+    (omega (arith, late (n .before) .0), omega (arith, there n, counted (turn s) .targets-below .ensures .1, b .2, b .3))
 
 returns-4 : tie.Need-returns-4 Inv-loop μ-loop
 returns-4 c =
     let l = c .before .before in
     let n = l .before .before in
-    let e = n .before .before .before in
+    let e = n .before .before in
     let s = e .before .before in
+    let t = turn s in
     led-as _ _ (c .led-to4 .ensures)
-    (started-two (turn s .loop .inv) _ (skipped s) (here (e .before)) (two e) _ (n .before .before .stay-one .ensures) (there (n .before)) _ (failing n)
+    (started-two (t .loop .inv) _ (skipped s) (here (e .before)) (two e) _ (n .before .stay-one .ensures) (there n) _ (failing t)
     (c .before .if4 .taken ∙ l .label2 .ensures))
 
 loop-less : tie.Need-loop-less Inv-loop μ-loop
 loop-less c =
     let n = c .before .before .before in
-    let b = late (n .before .before) in
-    omega (arith, there (n .before), skipped (n .before .before .before .before .before) .passed .on, n .before .before .stay-one .ensures .passed .on)
+    let y = n .before in
+    omega (arith, there n, skipped (y .before .before .before) .passed .on, y .stay-one .ensures .passed .on)
 
 loop-again : tie.Need-loop-again Inv-loop μ-loop
 loop-again c =
     let l = c .before in
     let n = l .before .before in
-    let e = n .before .before .before in
+    let e = n .before .before in
     let s = e .before .before in
-    started-again (turn s .loop .inv) _ (skipped s) (here (e .before)) (two e) _ (n .before .before .stay-one .ensures) (there (n .before)) _ (failing n)
+    let t = turn s in
+    started-again (t .loop .inv) _ (skipped s) (here (e .before)) (two e) _ (n .before .stay-one .ensures) (there n) _ (failing t)
     (λ z. c .if4 .left (z ∙ sym (l .label2 .ensures)))
 
 led-to-requires-5 : tie.Need-led-to-requires-5 Inv-loop μ-loop
@@ -176,6 +184,8 @@ from-start-spec =
     (tie.spec
     Inv-loop
     μ-loop
+    number-width-requires
+    targets-below-requires
     loop-holds
     label-requires
     skip-requires
@@ -188,7 +198,6 @@ from-start-spec =
     stay-one-requires
     led-to-requires-3
     returns-3
-    targets-below-requires
     add-failed
     add-i
     shared-slice-read-if4

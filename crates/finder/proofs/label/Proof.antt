@@ -1,14 +1,20 @@
--- `label` meets its contract. Byte t of the code is at place t. Assumes nothing.
-use native.Mathlib.Omega.{arith}
-use Rattle.sheets.proofs.Sheets.{begins-label, begins-room}
+-- `label` meets its contract. Byte t of the code is at index t - 1. Assumes nothing.
+use mathlib.Core.Path.{refl}
+use borrow.Author.Needs.{needs}
+use Rattle.words.specs.Words.{byte}
+use Rattle.automaton.specs.Arrows.{label}
 use Rattle.finder.proofs.label.Statement.{statement}
 use Rattle.finder.proofs.label.Tie as tie
 
+sub-result : tie.Need-sub-result
+sub-result c = search needs
+
 shared-slice-read-result : tie.Need-shared-slice-read-result
-shared-slice-read-result c = let q = c .before .pre in omega (arith, q .2, begins-room _ (q .0))
+shared-slice-read-result c = search needs
 
 returns : tie.Need-returns
-returns c = let q = c .before .pre in begins-label _ (q .0) _ (q .1) (q .2)
+unfolding label byte
+returns c = refl
 
 pub label-spec : {M : Type 1} → statement M
-label-spec = tie.close (tie.spec shared-slice-read-result returns)
+label-spec = tie.close (tie.spec sub-result shared-slice-read-result returns)

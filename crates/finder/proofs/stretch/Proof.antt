@@ -1,17 +1,15 @@
 -- `stretch` meets its contract. By the arrow of the byte behind. Assumes nothing.
 use native.Mathlib.Omega.{arith}
 use borrow.Author.Needs.{needs}
-use Rattle.sheets.specs.Sheet.{named}
-use Rattle.sheets.proofs.Sheets.{begins-bounds}
-use Rattle.finder.specs.Inside.{Went-by}
 use Rattle.automaton.specs.declared.Arrow.the-variants.{Forward}
+use Rattle.finder.specs.Inside.{Went-by}
 use Rattle.finder.proofs.stretch.Statement.{statement}
 use Rattle.finder.proofs.stretch.Tie as tie
 
 -- where all followed a forward arrow
 forward : (c : tie.After-enum-told) → let g = c .before .before .before in
-    let a = g .before .before .before .args in
-    let r = g .go-ahead .result in Went-by (named (a .sheet .now)) (a .piece .now) (a .p) (a .i) (r .bytes) (r .failed) Forward
+    let a = g .before .before .before .before .args in
+    let r = g .go-ahead .result in Went-by (a .code .now) (a .piece .now) (a .p) (a .i) (r .bytes) (r .failed) Forward
 forward c = rw (c .enum-told .given .1) at (c .before .before .before .go-ahead .ensures .by)
 
 go-ahead-requires : tie.Need-go-ahead-requires
@@ -23,11 +21,8 @@ add-cost c = search needs
 enum-known-arrow : tie.Need-enum-known-arrow
 enum-known-arrow c = search needs
 
-cast-t13 : tie.Need-cast-t13
-cast-t13 c = search needs
-
-add-t14 : tie.Need-add-t14
-add-t14 c = search needs
+cast-t14 : tie.Need-cast-t14
+cast-t14 c = search needs
 
 add-t15 : tie.Need-add-t15
 add-t15 c = search needs
@@ -35,28 +30,29 @@ add-t15 c = search needs
 add-t16 : tie.Need-add-t16
 add-t16 c = search needs
 
+add-t17 : tie.Need-add-t17
+add-t17 c = search needs
+
 enum-told : tie.Need-enum-told
 enum-told c = search needs
-
-add-t17 : tie.Need-add-t17
-add-t17 c =
-    let q = c .before .before .before .before .before .before .pre .0 .sheet in
-    omega (arith, forward c .1 .state, begins-bounds _ (q .on))
 
 add-t18 : tie.Need-add-t18
 add-t18 c = search needs
 
-enum-told-2 : tie.Need-enum-told-2
-enum-told-2 c = search needs
-
 add-t19 : tie.Need-add-t19
 add-t19 c = search needs
+
+enum-told-2 : tie.Need-enum-told-2
+enum-told-2 c = search needs
 
 add-t20 : tie.Need-add-t20
 add-t20 c = search needs
 
 add-t21 : tie.Need-add-t21
 add-t21 c = search needs
+
+add-t22 : tie.Need-add-t22
+add-t22 c = search needs
 
 returns : tie.Need-returns
 returns c =
@@ -65,9 +61,9 @@ returns c =
 
 returns-2 : tie.Need-returns-2
 returns-2 c =
-    let q = c .before .before .before .before .before .before .pre in
+    let q = c .before .before .before .before .before .before .before .pre in
     let v = forward c in
-    record { later = omega (arith, v .0, q .0 .inside, q .2, q .0 .sheet .m-is); leads = v .1 }
+    record { later = omega (arith, v .0, q .0 .inside, q .3); leads = v .1 }
 
 returns-3 : tie.Need-returns-3
 returns-3 c =
@@ -81,17 +77,17 @@ stretch-spec =
     go-ahead-requires
     add-cost
     enum-known-arrow
-    cast-t13
-    add-t14
+    cast-t14
     add-t15
     add-t16
-    enum-told
     add-t17
+    enum-told
     add-t18
-    enum-told-2
     add-t19
+    enum-told-2
     add-t20
     add-t21
+    add-t22
     returns
     returns-2
     returns-3)

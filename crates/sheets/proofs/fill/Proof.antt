@@ -1,60 +1,52 @@
 -- `fill` meets its contract. Assumes nothing.
-use native.Mathlib.Nat.{le-refl}
-use native.Mathlib.Omega.{arith}
+use mathlib.Core.Path.{_≡_}
 use lib.ListN.{length}
-use Rattle.automaton.proofs.FewArrows.{few-below}
-use Rattle.sheets.specs.Sheet.{sheet-room}
-use Rattle.sheets.proofs.Prepares.{then-states, filled-size, sheet-made}
+use lib.Seq.{sets}
+use Rattle.sheets.specs.Sheet.{number, count-place}
+use Rattle.sheets.proofs.Prepares.{zero-writable, then-states, filled-size, few-targets, sheet-made}
 use borrow.Author.Needs.{needs}
 use Rattle.sheets.proofs.fill.Statement.{statement}
 use Rattle.sheets.proofs.fill.Tie as tie
 
+-- the count of state 0 is put behind the code
+counted : (c : tie.After-write-number) →
+    let s = c .before .before .before .before .before .before .before .before .before in
+    c .write-number .last .0 ≡ sets (c .before .before .before .before .before .fill-code .last .1 .1 .0) (count-place (length (s .args .code .now)) 0) (number (s .args .width) 0)
+counted c = rw (c .before .count-place .ensures) at (c .write-number .ensures)
+
 fill-code-requires : tie.Need-fill-code-requires
-unfolding sheet-room
-fill-code-requires c κs = let s = c .before .before .before .pre in (s .few, omega (arith, s .room))
+fill-code-requires c κs = search needs
 
-add-buffer : tie.Need-add-buffer
-add-buffer c = search needs
+count-place-requires : tie.Need-count-place-requires
+count-place-requires c κs = search needs
 
-slice-write-buffer : tie.Need-slice-write-buffer
-unfolding sheet-room
-slice-write-buffer c = omega (arith, c .before .before .before .before .before .before .pre .room, c .before .before .fill-code .ensures .long)
-
-mul-result : tie.Need-mul-result
-mul-result c = search needs
-
-add-result : tie.Need-add-result
-add-result c = search needs
+write-number-requires : tie.Need-write-number-requires
+write-number-requires c κs = rw (c .count-place .ensures) (zero-writable (c .before .before .before .before .before .before .before .before .pre) (c .before .before .before .before .fill-code .ensures))
 
 fill-states-requires : tie.Need-fill-states-requires
-fill-states-requires c κs = then-states (c .before .before .before .before .before .before .before .pre) (c .before .before .before .fill-code .ensures)
+fill-states-requires c κs = then-states (c .before .before .before .before .before .before .before .before .before .before .before .before .pre) (c .before .before .before .before .before .before .before .before .fill-code .ensures) (counted (c .before .before .before))
 
-add-result-2 : tie.Need-add-result-2
-add-result-2 c =
-    let s = c .before .before .before .before .before .before .before .before .before .before in
-    let w = s .args .code .now in
-    omega (arith, s .pre .few, c .before .before .fill-states .ensures .stored-is, few-below w (length w) (le-refl (length w)))
+target-place-requires : tie.Need-target-place-requires
+target-place-requires c κs =
+    let s = c .before .before .before .before .before .before .before .before .before .before .before .before .before .before .before .pre in
+    (s .numbered, few-targets s (c .before .before .before .before .before .before .before .before .before .before .before .fill-code .ensures) (counted (c .before .before .before .before .before .before)) (c .before .before .fill-states .ensures))
 
 same-length : tie.Need-same-length
-same-length c =
-    filled-size (c .before .before .before .before .before .before .before .before .before .before .pre)
-    (c .before .before .before .before .before .before .fill-code .ensures) (c .before .before .fill-states .ensures)
+same-length c = filled-size (c .before .before .before .before .before .before .before .before .before .before .before .before .before .before .before .before .pre) (c .before .before .before .before .before .before .before .before .before .before .before .before .fill-code .ensures) (counted (c .before .before .before .before .before .before .before)) (c .before .before .before .fill-states .ensures)
 
 returns : tie.Need-returns
 returns c =
-    sheet-made (c .before .before .before .before .before .before .before .before .before .before .pre)
-    (c .before .before .before .before .before .before .fill-code .ensures) (c .before .before .fill-states .ensures)
+    sheet-made (c .before .before .before .before .before .before .before .before .before .before .before .before .before .before .before .before .pre) (c .before .before .before .before .before .before .before .before .before .before .before .before .fill-code .ensures) (counted (c .before .before .before .before .before .before .before)) (c .before .before .before .fill-states .ensures)
+    (c .target-place .result) (c .target-place .ensures)
 
 pub fill-spec : {M : Type 1} → statement M
 fill-spec =
     tie.close
     (tie.spec
     fill-code-requires
-    add-buffer
-    slice-write-buffer
-    mul-result
-    add-result
+    count-place-requires
+    write-number-requires
     fill-states-requires
-    add-result-2
+    target-place-requires
     same-length
     returns)

@@ -1,15 +1,15 @@
 -- `fill_states` meets its contract. The loop keeps that the states below r are filled. Assumes nothing.
 use Prim.Native.Nat.{_+_, _-_}
 use native.Mathlib.Omega.{arith}
-use Rattle.sheets.proofs.Prepares.{Filling-states, states-start, state-ready, few-stored, count-room, states-turn, states-done}
+use Rattle.sheets.proofs.Prepares.{Filling-states, states-start, state-ready, count-writable, states-turn, states-done}
 use Rattle.sheets.proofs.fill_states.Statement.{statement}
 use Rattle.sheets.proofs.fill_states.Tie as tie
 
 abbrev Inv-loop : tie.InvT-loop
-Inv-loop code buffer₀ m f₀ r₀ buffer f r = Filling-states code buffer₀ buffer r f
+Inv-loop code width buffer₀ m f₀ r₀ buffer f r = Filling-states code width buffer₀ buffer r f
 
 abbrev μ-loop : tie.MeasureT-loop
-μ-loop code buffer₀ m f₀ r₀ buffer f r = m + 1 - r
+μ-loop code width buffer₀ m f₀ r₀ buffer f r = m + 1 - r
 
 loop-holds : tie.Need-loop-holds Inv-loop μ-loop
 loop-holds c = states-start (c .before .before .pre .0) (c .before .before .pre .1)
@@ -17,32 +17,23 @@ loop-holds c = states-start (c .before .before .pre .0) (c .before .before .pre 
 fill-state-requires : tie.Need-fill-state-requires Inv-loop μ-loop
 fill-state-requires c κs = state-ready (c .before .before .loop .inv) (c .before .loop-test .taken)
 
-cast-buffer : tie.Need-cast-buffer Inv-loop μ-loop
-cast-buffer c =
-    let s = c .before .before .before .before .before .before .loop .inv in
-    omega (arith, few-stored s (c .before .before .before .before .before .loop-test .taken) (c .before .before .before .fill-state .ensures))
+count-place-requires : tie.Need-count-place-requires Inv-loop μ-loop
+count-place-requires c κs = let s = c .before .before .before .before .before .before .loop .inv in (s .fits .numbered, c .before .before .before .before .before .loop-test .taken)
 
-add-buffer : tie.Need-add-buffer Inv-loop μ-loop
-add-buffer c = let s = c .before .before .before .before .before .before .loop .inv in omega (arith, s .fits .few)
-
-add-buffer-2 : tie.Need-add-buffer-2 Inv-loop μ-loop
-add-buffer-2 c = let s = c .before .before .before .before .before .before .loop .inv in omega (arith, s .fits .few, s .ok)
-
-slice-write-buffer : tie.Need-slice-write-buffer Inv-loop μ-loop
-slice-write-buffer c =
-    count-room (c .before .before .before .before .before .before .loop .inv)
-    (c .before .before .before .before .before .loop-test .taken) (c .before .before .before .fill-state .ensures)
+write-number-requires : tie.Need-write-number-requires Inv-loop μ-loop
+write-number-requires c κs = rw (c .count-place .ensures) (count-writable (c .before .before .before .before .before .before .before .loop .inv) (c .before .before .before .before .before .before .loop-test .taken) (c .before .before .before .before .fill-state .ensures))
 
 add-r : tie.Need-add-r Inv-loop μ-loop
-add-r c = let s = c .before .before .before .before .before .before .loop .inv in omega (arith, s .fits .few, s .ok)
+add-r c = let s = c .before .before .before .before .before .before .before .before .before .before .loop .inv in omega (arith, s .fits .numbered .few, s .ok)
 
 loop-less : tie.Need-loop-less Inv-loop μ-loop
 loop-less c = omega arith
 
 loop-again : tie.Need-loop-again Inv-loop μ-loop
 loop-again c =
-    states-turn (c .before .before .before .before .before .before .loop .inv)
-    (c .before .before .before .before .before .loop-test .taken) (c .before .before .before .fill-state .ensures)
+    let e = c .before .before .write-number in
+    states-turn (c .before .before .before .before .before .before .before .before .before .before .loop .inv) (c .before .before .before .before .before .before .before .before .before .loop-test .taken) (c .before .before .before .before .before .before .before .fill-state .ensures) (e .last .0)
+    (rw (c .before .before .before .count-place .ensures) at (e .ensures))
 
 same-length : tie.Need-same-length Inv-loop μ-loop
 same-length c = c .before .loop .inv .filling .long
@@ -58,10 +49,8 @@ fill-states-spec =
     μ-loop
     loop-holds
     fill-state-requires
-    cast-buffer
-    add-buffer
-    add-buffer-2
-    slice-write-buffer
+    count-place-requires
+    write-number-requires
     add-r
     loop-less
     loop-again

@@ -1,10 +1,8 @@
 -- `from_whole` meets its contract. By whether a byte was found that leads to 0. Assumes nothing.
 use mathlib.Core.Path.{refl}
-use Prim.Native.Nat.{_≤_}
 use native.Mathlib.Omega.{arith}
-use borrow.Author.Needs.{needs}
-use Rattle.sheets.proofs.Sheets.{begins-bounds}
 use Rattle.finder.proofs.Repeating.{turned-row, turned-left}
+use borrow.Author.Needs.{needs}
 use Rattle.finder.proofs.piece.from_whole.Statement.{statement}
 use Rattle.finder.proofs.piece.from_whole.Tie as tie
 
@@ -29,17 +27,8 @@ sub-least-2 c = search needs
 least-requires : tie.Need-least-requires
 least-requires c κs = search needs
 
--- THE TURN, from what `repeat` has written
-abbrev entry : tie.After-repeat → tie.Start
-entry c = c .before .before .before .before .before .before .before
-
-some : (c : tie.After-repeat) → 1 ≤ entry c .args .m
-some c = let q = entry c .pre .0 .sheet in omega (arith, q .m-is, begins-bounds _ (q .on))
-
 label-requires : tie.Need-label-requires
-label-requires c κs =
-    let q = c .before .before .before .before .pre .0 .sheet in
-    (q .on, omega (arith, q .m-is, begins-bounds _ (q .on)), omega (arith, q .m-is))
+label-requires c κs = search needs
 
 repeat-requires : tie.Need-repeat-requires
 repeat-requires c κs = search needs
@@ -59,13 +48,17 @@ add-t26 c = search needs
 same-length : tie.Need-same-length
 same-length c = search needs
 
+-- THE TURN, from what `repeat` has written
+abbrev entry : tie.After-repeat → tie.Start
+entry c = c .before .before .before .before .before .before .before
+
 returns : tie.Need-returns
 returns c =
     let k = c .before .before .before in
     let b = entry k in
     let q = b .pre .0 in
     let least = k .before .before .before .least .ensures in
-    turned-left _ _ _ (q .sheet .m-is) (b .pre .1) (some k) _ _ _ _ _ _ _ _ (rw (k .before .before .label .ensures) at (k .repeat .ensures))
+    turned-left _ _ (b .pre .1) (q .some) _ _ _ _ _ _ _ _ (rw (k .before .before .label .ensures) at (k .repeat .ensures))
     (omega (arith, least, q .inside)) (omega (arith, least, q .room)) (q .reached) refl (c .if1 .taken)
 
 add-t14 : tie.Need-add-t14
@@ -83,7 +76,7 @@ returns-2 c =
     let b = entry k in
     let q = b .pre .0 in
     let least = k .before .before .before .least .ensures in
-    turned-row _ _ _ (q .sheet .m-is) (b .pre .1) (some k) _ _ _ _ _ _ _ _ (rw (k .before .before .label .ensures) at (k .repeat .ensures))
+    turned-row _ _ (b .pre .1) (q .some) _ _ _ _ _ _ _ _ (rw (k .before .before .label .ensures) at (k .repeat .ensures))
     (omega (arith, least, q .inside)) (omega (arith, least, q .room)) (q .reached) refl (omega (arith, least, q .inside, q .room, c .if1 .left))
 
 pub from-whole-spec : {M : Type 1} → statement M

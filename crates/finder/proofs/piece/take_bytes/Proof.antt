@@ -10,22 +10,16 @@ use Rattle.finder.proofs.piece.take_bytes.Statement.{statement}
 use Rattle.finder.proofs.piece.take_bytes.Tie as tie
 
 abbrev Inv-loop : tie.InvT-loop
-Inv-loop sheet watch piece places₀ m state₀ cost₀ i₀ k₀ places state cost i k = Loop sheet watch piece places₀ m state cost i k places
+Inv-loop sheet code watch piece places₀ state₀ cost₀ i₀ k₀ places state cost i k = Loop sheet code watch piece places₀ state cost i k places
 
 abbrev μ-loop : tie.MeasureT-loop
-μ-loop sheet watch piece places₀ m state₀ cost₀ i₀ k₀ places state cost i k = length piece - i
-
-code-length-requires : tie.Need-code-length-requires Inv-loop μ-loop
-code-length-requires c κs = c .before .before .before .pre .0
+μ-loop sheet code watch piece places₀ state₀ cost₀ i₀ k₀ places state cost i k = length piece - i
 
 cast-state : tie.Need-cast-state Inv-loop μ-loop
 cast-state c = search needs
 
 loop-holds : tie.Need-loop-holds Inv-loop μ-loop
-loop-holds c =
-    let l = c .before in
-    let q = l .before .before .before .before .pre in
-    loop-start (l .code-length .result) (q .0) (q .1) (l .code-length .ensures .0)
+loop-holds c = let q = c .before .before .before .before .before .pre in loop-start (q .0) (q .1)
 
 take-turn-requires : tie.Need-take-turn-requires Inv-loop μ-loop
 take-turn-requires c κs =
@@ -84,7 +78,6 @@ take-bytes-spec =
     (tie.spec
     Inv-loop
     μ-loop
-    code-length-requires
     cast-state
     loop-holds
     take-turn-requires

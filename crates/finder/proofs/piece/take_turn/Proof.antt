@@ -12,7 +12,7 @@ has-own-arrow-requires c κs = search needs
 from-whole-requires : tie.Need-from-whole-requires
 from-whole-requires c κs =
     let r = c .before .before in
-    (rw (r .before .if1 .taken) at (r .before .before .before .before .before .pre), same-eq _ _ (sym (r .has-own-arrow .ensures) ∙ c .before .if2 .taken))
+    (rw (r .before .if1 .taken) at (r .before .before .before .before .before .before .pre .1), same-eq _ _ (sym (r .has-own-arrow .ensures) ∙ c .before .if2 .taken))
 
 same-length : tie.Need-same-length
 same-length c = search needs
@@ -35,7 +35,7 @@ returns-2 : tie.Need-returns-2
 returns-2 c =
     let r = c .before .before in
     let v = r .before .before in
-    turned-by (v .before .before .before .before .before .pre) (v .advance .result) (v .advance .ensures) _ _ (r .write-place .ensures)
+    turned-by (v .before .before .before .before .before .before .pre .1) (v .advance .result) (v .advance .ensures) _ _ (r .write-place .ensures)
 
 pub take-turn-spec : {M : Type 1} → statement M
 take-turn-spec =
