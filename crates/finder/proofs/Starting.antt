@@ -16,9 +16,9 @@ use Rattle.automaton.proofs.Counts.{below-suc, below-one}
 use Rattle.automaton.proofs.Steps.{steps-at-zero, step-none, step-one, step-not-one, forward-on, forward-off}
 use Rattle.codes.specs.Codes.{longest-code}
 use Rattle.finder.specs.declared.Led.{Led}
-use Rattle.finder.specs.Inside.{Skipped, Stayed, Leads, Led-from, Readable, Stayed-one, led-to}
-use Rattle.finder.proofs.Passing.{passed-none, passed-as, stopped-found}
+use Rattle.finder.specs.Inside.{Skipped, Stayed, Leads, Led-from, Readable, Startable, Stayed-one, led-to}
 use Rattle.finder.proofs.Coded.{coded-bounds}
+use Rattle.finder.proofs.Passing.{passed-none, passed-as, stopped-found}
 use Rattle.finder.proofs.Leading.{step-cheap, leads-none, leads-on, leads-step, leads-same, leads-other}
 
 -- STATE 1 has at most one backward arrow, to 1 again on the code's first byte
@@ -42,24 +42,28 @@ pub led-as : {w piece : List ℕ} {p i : ℕ} (s t : Led) → s ≡ t → Led-fr
 led-as s t e m = rw e m
 
 -- the bytes from one index to index i lead to 0: one comparison for each, and the labels that failed besides
-pub record Started (bs w piece : List ℕ) (from failed i : ℕ) : Type 0 where
-  pub began : Readable bs w 0 piece from
+pub record Started (w : List ℕ) (back : ℕ) (piece : List ℕ) (from failed i : ℕ) : Type 0 where
+  pub began : Startable w back piece from
   pub leads : Leads w piece 0 from 0 (i - from + failed) i
 
-pub started : {bs w piece : List ℕ} {from : ℕ} → Readable bs w 0 piece from → Started bs w piece from 0 from
-started {bs} {w} {piece} {from} g =
+pub startable : {bs w : List ℕ} {p : ℕ} {piece : List ℕ} {i : ℕ} → Readable bs w p piece i → (back : ℕ) → back ≡ arrows-below w 2 → Startable w back piece i
+startable g back e =
+    let b = coded-bounds (g .sheet) in record { some = b .0; few = b .1; back-is = e; inside = g .inside; text = g .text }
+
+pub started : {w : List ℕ} {back : ℕ} {piece : List ℕ} {from : ℕ} → Startable w back piece from → Started w back piece from 0 from
+started {w} {back} {piece} {from} g =
     let none : from - from + 0 ≡ 0 = omega arith in
     record {
       began = g;
-      leads = rw none (leads-none w piece 0 from (coded-bounds (g .sheet) .0) (omega (arith, g .inside)));
+      leads = rw none (leads-none w piece 0 from (g .some) (omega (arith, g .inside)));
     }
 
-module _ {bs w piece : List ℕ} {from failed i : ℕ} (s : Started bs w piece from failed i) where
+module _ {w : List ℕ} {back : ℕ} {piece : List ℕ} {from failed i : ℕ} (s : Started w back piece from failed i) where
   some : 1 ≤ length w
-  some = coded-bounds (s .began .sheet) .0
+  some = s .began .some
 
   cheap : (p c : ℕ) → p ≤ length w → stepped w p c .cost ≤ longest-code
-  cheap p c h = step-cheap w p c h (coded-bounds (s .began .sheet) .1)
+  cheap p c h = step-cheap w p c h (s .began .few)
 
   -- what sums and calls need
   pub started-bounds : (from ≤ i) × (i ≤ length piece) × (i - from + failed ≤ longest-code * (i - from)) × (length piece ≤ longest-text)
@@ -133,7 +137,7 @@ module _ {bs w piece : List ℕ} {from failed i : ℕ} (s : Started bs w piece f
                     (sym (y .found there ∙ forward-on (arrows w 1) w 1 (getD piece l 0) low (sym (f ∙ label-suc w 1)))) refl;
               }
 
-          pub started-again : getD piece l 0 ≢ label w 2 → Started bs w piece from (failed + n) (l + 1)
+          pub started-again : getD piece l 0 ≢ label w 2 → Started w back piece from (failed + n) (l + 1)
           started-again f =
               record {
                 began = s .began;

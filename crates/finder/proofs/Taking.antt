@@ -120,21 +120,19 @@ module _ {bs w : List ℕ} {x : Watch} {piece ps₀ : List ℕ} {q c i k : ℕ} 
       took e (taking-full (t .taking) none) (d ∙ sym (ending-list 1 piece (length ps₀) (fed (further x q i k c) i (take k ps)) none l))
 
   -- A TURN
-  pub turning : i < length piece → k < length ps → Coded bs w × Turning w (x .taken) q piece i ps k
+  pub turning : i < length piece → k < length ps → Turning w (x .taken) q piece i ps k
   turning h r =
-      let b = coded-bounds (t .sheet) in (
-        t .sheet,
-        record {
-          some = b .0;
-          few = b .1;
-          state = t .state;
-          reached = t .reached;
-          inside = h;
-          text = t .ready .text;
-          room = r;
-          fewer = t .fewer;
-        },
-      )
+      let b = coded-bounds (t .sheet) in
+      record {
+        some = b .0;
+        few = b .1;
+        state = t .state;
+        reached = t .reached;
+        inside = h;
+        text = t .ready .text;
+        room = r;
+        fewer = t .fewer;
+      }
 
   pub turn-on : (u : Turn) (qs : List ℕ) → Turned w piece (x .taken) q i k ps u qs →
       Loop bs w x piece ps₀ (u .state) (c + u .cost) (u .at) (u .written) qs

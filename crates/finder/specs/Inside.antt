@@ -8,7 +8,7 @@ use lib.ListN.{length, getD, take, drop}
 use Rattle.runs.specs.Reading.{longest-text, fed-more}
 use Rattle.automaton.specs.declared.Arrow.{Arrow}
 use Rattle.automaton.specs.declared.Arrow.the-variants.{Back, Forward, Nothing}
-use Rattle.automaton.specs.Arrows.{label, all-targets, arrows, step, try-forward, stepped}
+use Rattle.automaton.specs.Arrows.{label, all-targets, arrows, arrows-below, step, try-forward, stepped}
 use Rattle.codes.specs.Codes.{longest-code}
 use Rattle.sheets.specs.Sheet.{number-width, named, begins}
 use Rattle.finder.specs.declared.Watch.{Watch}
@@ -115,7 +115,15 @@ pub record Readable (bs w : List ℕ) (p : ℕ) (piece : List ℕ) (i : ℕ) : T
   pub inside : i < length piece
   pub text : length piece ≤ longest-text
 
--- the same, if a byte is left
+-- the same in state 0, given how many backward arrows state 1 has; no sheet is needed
+pub record Startable (w : List ℕ) (back : ℕ) (piece : List ℕ) (i : ℕ) : Type 0 where
+  pub some : 1 ≤ length w
+  pub few : length w ≤ longest-code
+  pub back-is : back ≡ arrows-below w 2
+  pub inside : i < length piece
+  pub text : length piece ≤ longest-text
+
+-- the same in any state, if a byte is left
 pub record Running (bs w : List ℕ) (p : ℕ) (piece : List ℕ) (i : ℕ) : Type 0 where
   pub sheet : Coded bs w
   pub state : p ≤ length w

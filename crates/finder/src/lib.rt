@@ -8,7 +8,7 @@ ghost use Rattle.automaton.specs.Arrows.{label, arrows-below, back-arrows, try-
 ghost use Rattle.codes.specs.Codes.{longest-code};
 ghost use Rattle.sheets.specs.Sheet.{number-width, named, begins};
 ghost use Rattle.finder.specs.Feed.{opened};
-ghost use Rattle.finder.specs.Inside.{Sized, Coded, Shaped, target-of, Sought-by, Went, Readable, Led-from, Begun, Running, Ran-from, Skipped, Stayed};
+ghost use Rattle.finder.specs.Inside.{Sized, Coded, Shaped, target-of, Sought-by, Went, Readable, Startable, Led-from, Begun, Running, Ran-from, Skipped, Stayed};
 ghost use Rattle.finder.specs.Inside.{Stayed-one, led-to};
 use automaton::Arrow;
 use automaton::Step;
@@ -386,13 +386,12 @@ fn led_to(state: usize, from: usize, at: usize, failed: usize) -> Led
 }
 
 // From state 0, and on as long as no byte leads past state 1 or completes the code: up to 1.5 times as fast on plan text as with a turn for each first byte of
-// the code. A byte costs one comparison, and where it leaves state 1 the backward labels of 1 have failed too.
-fn from_start(sheet: &[u8], code: &[u8], piece: &[u8], from: usize) -> Led
-    requires { ⌜ Readable (now sheet) (now code) 0 (now piece) from ⌝ }
+// the code. A byte costs one comparison, and where it leaves state 1 the backward labels of 1, `back` of them, have failed too.
+fn from_start(code: &[u8], back: usize, piece: &[u8], from: usize) -> Led
+    requires { ⌜ Startable (now code) back (now piece) from ⌝ }
     ensures { λ r. ⌜ Led-from (now (code .entry)) (now (piece .entry)) 0 from r ⌝ }
 {
     let m = code.len();
-    let back = targets_below(sheet, m, number_width(m), 2);
     let mut failed = 0;
     let mut i = from;
     while i < piece.len() {
@@ -417,12 +416,12 @@ fn from_start(sheet: &[u8], code: &[u8], piece: &[u8], from: usize) -> Led
 }
 
 // How the bytes from any state begin: from 0 as far as `from_start` goes, from m with one step. Elsewhere none is taken yet.
-fn begin(sheet: &[u8], code: &[u8], p: usize, piece: &[u8], i: usize) -> Led
-    requires { ⌜ Readable (now sheet) (now code) p (now piece) i ⌝ }
+fn begin(sheet: &[u8], code: &[u8], back: usize, p: usize, piece: &[u8], i: usize) -> Led
+    requires { ⌜ Readable (now sheet) (now code) p (now piece) i × (back ≡ arrows-below (now code) 2) ⌝ }
     ensures { λ r. ⌜ Begun (now (code .entry)) (now (piece .entry)) p i r ⌝ }
 {
     if p == 0 {
-        return from_start(sheet, code, piece, i);
+        return from_start(code, back, piece, i);
     }
     if p == code.len() {
         let s = follow(sheet, code, p, piece[i]);
@@ -440,11 +439,11 @@ fn begin(sheet: &[u8], code: &[u8], p: usize, piece: &[u8], i: usize) -> Led
 }
 
 // From any state: some bytes, no further than the first place that is completed.
-fn advance(sheet: &[u8], code: &[u8], p: usize, piece: &[u8], i: usize) -> Led
-    requires { ⌜ Readable (now sheet) (now code) p (now piece) i ⌝ }
+fn advance(sheet: &[u8], code: &[u8], back: usize, p: usize, piece: &[u8], i: usize) -> Led
+    requires { ⌜ Readable (now sheet) (now code) p (now piece) i × (back ≡ arrows-below (now code) 2) ⌝ }
     ensures { λ r. ⌜ Led-from (now (code .entry)) (now (piece .entry)) p i r ⌝ }
 {
-    let s = begin(sheet, code, p, piece, i);
+    let s = begin(sheet, code, back, p, piece, i);
     let r = run(sheet, code, s.state, piece, s.at);
     Led {
         state: r.state,

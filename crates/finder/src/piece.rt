@@ -3,7 +3,7 @@ ghost use mathlib.Core.Path.{_≡_};
 ghost use mathlib.Core.List.{[], _∷_};
 ghost use lib.ListN.{length};
 ghost use Rattle.words.specs.Words.{same};
-ghost use Rattle.automaton.specs.Arrows.{back-targets};
+ghost use Rattle.automaton.specs.Arrows.{back-targets, arrows-below};
 ghost use Rattle.finder.specs.Feed.{fit};
 ghost use Rattle.finder.specs.Entry.{lent, feed-refusal, Feed-says};
 ghost use Rattle.finder.specs.Inside.{Coded, Ready, Placing, Placed, Repeating, Repeated, Turning, Turned, Took};
@@ -126,6 +126,7 @@ fn from_whole(
 fn take_turn(
     sheet: &[u8],
     code: &[u8],
+    back: usize,
     before: u32,
     p: usize,
     piece: &[u8],
@@ -133,28 +134,36 @@ fn take_turn(
     places: &mut [u32],
     k: usize,
 ) -> Turn
-    requires { ⌜ Coded (now sheet) (now code) × Turning (now code) before p (now piece) i (now places) k ⌝ }
+    requires { ⌜ Coded (now sheet) (now code) × (back ≡ arrows-below (now code) 2) × Turning (now code) before p (now piece) i (now places) k ⌝ }
     ensures { λ r. ⌜ Turned (now (code .entry)) (now (piece .entry)) before p i k (now (places .entry)) r (now (places .exit)) ⌝ }
 {
     let m = code.len();
     if p == m && has_own_arrow(sheet, code) {
         return from_whole(code, before, piece, i, places, k);
     }
-    write_place(m, before, advance(sheet, code, p, piece, i), places, k)
+    write_place(
+        m,
+        before,
+        advance(sheet, code, back, p, piece, i),
+        places,
+        k,
+    )
 }
 
-// The bytes of a piece, until it ends or the list is full. From turn to turn only the state, the cost and the two counts are kept: the whole watch, carried
+// The bytes of a piece, until it ends or the list is full. How many backward arrows state 1 has is read once. From turn to turn only the state, the cost and the two counts are kept: the whole watch, carried
 // along, was slower.
 fn take_bytes(sheet: &[u8], code: &[u8], watch: Watch, piece: &[u8], places: &mut [u32]) -> Feeding
     requires { ⌜ Coded (now sheet) (now code) × Ready (length (now code)) watch (length (now piece)) ⌝ }
     ensures { λ r. ⌜ Took (now (code .entry)) watch (lent (now (piece .entry)) (now (places .entry))) r (lent (now (piece .exit)) (now (places .exit))) ⌝ }
 {
+    let m = code.len();
+    let back = targets_below(sheet, m, number_width(m), 2);
     let mut state = watch.state as usize;
     let mut cost: u64 = 0;
     let mut i = 0;
     let mut k = 0;
     while i < piece.len() && k < places.len() {
-        let t = take_turn(sheet, code, watch.taken, state, piece, i, places, k);
+        let t = take_turn(sheet, code, back, watch.taken, state, piece, i, places, k);
         state = t.state;
         cost += t.cost;
         i = t.at;

@@ -3,37 +3,33 @@ use mathlib.Core.Path.{_≡_, sym, _∙_}
 use Prim.Native.Nat.{_*_, _-_, _≤_, _<_}
 use native.Mathlib.Nat.{le-refl}
 use native.Mathlib.Omega.{arith}
-use borrow.Author.Needs.{needs}
 use lib.ListN.{length}
 use Rattle.runs.specs.Reading.{longest-text}
-use Rattle.automaton.specs.Arrows.{label, arrows, arrows-below}
+use Rattle.automaton.specs.Arrows.{label, arrows}
 use Rattle.automaton.proofs.Counts.{below-suc, below-one}
+use Rattle.automaton.proofs.FewArrows.{few-below}
 use Rattle.codes.specs.Codes.{longest-code}
 use Rattle.finder.specs.Inside.{Skipped}
-use Rattle.finder.proofs.Coded.{coded-bounds, coded-sized, coded-count}
 use Rattle.finder.proofs.Starting.{Started, started, started-bounds, started-end, started-missed, started-first, started-stayed, started-two}
 use Rattle.finder.proofs.Starting.{started-again, led-as}
 use Rattle.finder.proofs.from_start.Statement.{statement}
 use Rattle.finder.proofs.from_start.Tie as tie
 
 abbrev Inv-loop : tie.InvT-loop
-Inv-loop sheet code piece from m back failed₀ i₀ failed i = Started sheet code piece from failed i
+Inv-loop code back piece from m failed₀ i₀ failed i = Started code back piece from failed i
 
 abbrev μ-loop : tie.MeasureT-loop
-μ-loop sheet code piece from m back failed₀ i₀ failed i = length piece - i
-
--- the backward arrows of state 1 were counted
-abbrev counted : tie.At-loop Inv-loop μ-loop → tie.After-targets-below Inv-loop μ-loop
-counted c = c .before
+μ-loop code back piece from m failed₀ i₀ failed i = length piece - i
 
 abbrev entry : tie.At-loop Inv-loop μ-loop → tie.Start Inv-loop μ-loop
-entry c = counted c .before .before .before .before .before
+entry c = c .before .before .before
 
-back-is : (c : tie.At-loop Inv-loop μ-loop) → counted c .targets-below .result ≡ arrows-below (entry c .args .code .now) 2
-back-is c = coded-count (entry c .pre .sheet) _ _ (counted c .targets-below .ensures .0)
+-- the backward arrows of state 1
+failing : (c : tie.At-loop Inv-loop μ-loop) → entry c .args .back ≡ arrows (entry c .args .code .now) 1
+failing c = let w = entry c .args .code .now in omega (arith, entry c .pre .back-is, below-suc w 1, below-one w)
 
-failing : (c : tie.At-loop Inv-loop μ-loop) → counted c .targets-below .result ≡ arrows (entry c .args .code .now) 1
-failing c = let w = entry c .args .code .now in omega (arith, back-is c, below-suc w 1, below-one w)
+few : (c : tie.At-loop Inv-loop μ-loop) → entry c .args .back ≤ 1
+few c = omega (arith, entry c .pre .back-is, few-below (entry c .args .code .now) 1 (entry c .pre .some))
 
 -- IN A TURN: the byte that is looked for is the first label
 abbrev turn : tie.After-skip Inv-loop μ-loop → tie.At-loop Inv-loop μ-loop
@@ -49,7 +45,7 @@ here c = omega (arith, skipped (c .before) .within, c .if1 .left)
 
 -- in state 1, with m of 2 or more
 two : (c : tie.Else2 Inv-loop μ-loop) → 2 ≤ length (entry (turn (c .before .before)) .args .code .now)
-two c = omega (arith, c .if2 .left, coded-bounds (entry (turn (c .before .before)) .pre .sheet) .0)
+two c = omega (arith, c .if2 .left, entry (turn (c .before .before)) .pre .some)
 
 there : (c : tie.Else3 Inv-loop μ-loop) → let s = c .before .before .before .before in
     c .before .stay-one .result < length (entry (turn s) .args .piece .now)
@@ -67,19 +63,11 @@ late : (c : tie.After-stay-one Inv-loop μ-loop) → let s = c .before .before .
     (entry (turn s) .args .from < c .stay-one .result) × (c .stay-one .result ≤ length (entry (turn s) .args .piece .now))
 late c = let s = c .before .before .before in let y = c .stay-one .ensures in (omega (arith, early s .0, y .passed .on), y .within)
 
-number-width-requires : tie.Need-number-width-requires Inv-loop μ-loop
-number-width-requires c κs = search needs
-
-targets-below-requires : tie.Need-targets-below-requires Inv-loop μ-loop
-targets-below-requires c κs =
-    let g = c .before .before .before .before .pre .sheet in
-    (coded-sized g _ (c .number-width .ensures), omega arith, omega (arith, coded-bounds g .0))
-
 loop-holds : tie.Need-loop-holds Inv-loop μ-loop
-loop-holds c = started (c .before .before .before .before .before .pre)
+loop-holds c = started (c .before .before .pre)
 
 label-requires : tie.Need-label-requires Inv-loop μ-loop
-label-requires c κs = (le-refl 1, coded-bounds (entry (c .before) .pre .sheet) .0)
+label-requires c κs = (le-refl 1, entry (c .before) .pre .some)
 
 skip-requires : tie.Need-skip-requires Inv-loop μ-loop
 skip-requires c κs = started-bounds (c .before .before .loop .inv) .1
@@ -108,7 +96,7 @@ add-stay-one : tie.Need-add-stay-one Inv-loop μ-loop
 add-stay-one c = let b = early (c .before .before) in omega (arith, b .1, b .3)
 
 stay-one-requires : tie.Need-stay-one-requires Inv-loop μ-loop
-stay-one-requires c κs = (two c, back-is (turn (c .before .before)), omega (arith, here (c .before)))
+stay-one-requires c κs = (two c, entry (turn (c .before .before)) .pre .back-is, omega (arith, here (c .before)))
 
 led-to-requires-3 : tie.Need-led-to-requires-3 Inv-loop μ-loop
 led-to-requires-3 c κs =
@@ -127,7 +115,7 @@ add-failed : tie.Need-add-failed Inv-loop μ-loop
 add-failed c =
     let s = c .before .before .before .before in
     let b = early s in
-    omega (arith, counted (turn s) .targets-below .ensures .1, b .2, b .3)
+    omega (arith, few (turn s), b .2, b .3)
 
 add-i : tie.Need-add-i Inv-loop μ-loop
 add-i c = omega (arith, there c, early (c .before .before .before .before) .3)
@@ -143,7 +131,7 @@ led-to-requires-4 c κs =
     let n = c .before .before .before in
     let s = n .before .before .before .before in
     let b = early s in
-    (omega (arith, late (n .before) .0), omega (arith, there n, counted (turn s) .targets-below .ensures .1, b .2, b .3))
+    (omega (arith, late (n .before) .0), omega (arith, there n, few (turn s), b .2, b .3))
 
 returns-4 : tie.Need-returns-4 Inv-loop μ-loop
 returns-4 c =
@@ -184,8 +172,6 @@ from-start-spec =
     (tie.spec
     Inv-loop
     μ-loop
-    number-width-requires
-    targets-below-requires
     loop-holds
     label-requires
     skip-requires

@@ -5,26 +5,40 @@ use native.Mathlib.Omega.{arith}
 use borrow.Author.Needs.{needs}
 use borrow.Author.Tests.{ltb-true, ltb-false}
 use lib.ListN.{length}
+use Rattle.finder.proofs.Coded.{coded-bounds, coded-sized, coded-count}
 use Rattle.finder.proofs.Taking.{Loop, loop-start, loop-bounds, answer-done, answer-full, turning, turn-on}
 use Rattle.finder.proofs.piece.take_bytes.Statement.{statement}
 use Rattle.finder.proofs.piece.take_bytes.Tie as tie
 
 abbrev Inv-loop : tie.InvT-loop
-Inv-loop sheet code watch piece places₀ state₀ cost₀ i₀ k₀ places state cost i k = Loop sheet code watch piece places₀ state cost i k places
+Inv-loop sheet code watch piece places₀ m back state₀ cost₀ i₀ k₀ places state cost i k = Loop sheet code watch piece places₀ state cost i k places
 
 abbrev μ-loop : tie.MeasureT-loop
-μ-loop sheet code watch piece places₀ state₀ cost₀ i₀ k₀ places state cost i k = length piece - i
+μ-loop sheet code watch piece places₀ m back state₀ cost₀ i₀ k₀ places state cost i k = length piece - i
+
+number-width-requires : tie.Need-number-width-requires Inv-loop μ-loop
+number-width-requires c κs = search needs
+
+targets-below-requires : tie.Need-targets-below-requires Inv-loop μ-loop
+targets-below-requires c κs =
+    let q = c .before .before .before .before .before .pre .0 in
+    (coded-sized q _ (c .number-width .ensures), omega arith, omega (arith, coded-bounds q .0))
 
 cast-state : tie.Need-cast-state Inv-loop μ-loop
 cast-state c = search needs
 
 loop-holds : tie.Need-loop-holds Inv-loop μ-loop
-loop-holds c = let q = c .before .before .before .before .before .pre in loop-start (q .0) (q .1)
+loop-holds c = let q = c .before .before .before .before .before .before .before .pre in loop-start (q .0) (q .1)
 
 take-turn-requires : tie.Need-take-turn-requires Inv-loop μ-loop
 take-turn-requires c κs =
     let l = c .before .before in
-    turning (l .before .loop .inv) (l .loop-test .taken) (ltb-true _ _ (c .before .if1 .taken))
+    let t = l .before in
+    let g = t .loop .inv in (
+      g .sheet,
+      coded-count (g .sheet) _ _ (t .before .before .targets-below .ensures .0),
+      turning g (l .loop-test .taken) (ltb-true _ _ (c .before .if1 .taken)),
+    )
 
 add-cost : tie.Need-add-cost Inv-loop μ-loop
 add-cost c =
@@ -47,17 +61,17 @@ cast-taken c = let b = loop-bounds (c .before .before .loop .inv) in omega (arit
 cast-written : tie.Need-cast-written Inv-loop μ-loop
 cast-written c = let b = loop-bounds (c .before .before .loop .inv) in omega (arith, b .0, b .1, b .2)
 
-cast-t22 : tie.Need-cast-t22 Inv-loop μ-loop
-cast-t22 c = let t = c .before .before .loop .inv in omega (arith, t .reached, loop-bounds t .1)
-
-add-t23 : tie.Need-add-t23 Inv-loop μ-loop
-add-t23 c = let b = loop-bounds (c .before .before .before .loop .inv) in omega (arith, b .1)
-
-add-t24 : tie.Need-add-t24 Inv-loop μ-loop
-add-t24 c = let b = loop-bounds (c .before .before .before .before .loop .inv) in omega (arith, b .1, b .2, b .3)
+cast-t24 : tie.Need-cast-t24 Inv-loop μ-loop
+cast-t24 c = let t = c .before .before .loop .inv in omega (arith, t .reached, loop-bounds t .1)
 
 add-t25 : tie.Need-add-t25 Inv-loop μ-loop
-add-t25 c = let b = loop-bounds (c .before .before .before .before .before .loop .inv) in omega (arith, b .4)
+add-t25 c = let b = loop-bounds (c .before .before .before .loop .inv) in omega (arith, b .1)
+
+add-t26 : tie.Need-add-t26 Inv-loop μ-loop
+add-t26 c = let b = loop-bounds (c .before .before .before .before .loop .inv) in omega (arith, b .1, b .2, b .3)
+
+add-t27 : tie.Need-add-t27 Inv-loop μ-loop
+add-t27 c = let b = loop-bounds (c .before .before .before .before .before .loop .inv) in omega (arith, b .4)
 
 same-length : tie.Need-same-length Inv-loop μ-loop
 same-length c = c .before .before .before .before .before .loop .inv .front .size
@@ -78,6 +92,8 @@ take-bytes-spec =
     (tie.spec
     Inv-loop
     μ-loop
+    number-width-requires
+    targets-below-requires
     cast-state
     loop-holds
     take-turn-requires
@@ -86,9 +102,9 @@ take-bytes-spec =
     loop-again
     cast-taken
     cast-written
-    cast-t22
-    add-t23
-    add-t24
+    cast-t24
     add-t25
+    add-t26
+    add-t27
     same-length
     returns)

@@ -1,5 +1,6 @@
 -- `take_turn` meets its contract. By whether state m has one arrow alone, to m again. Assumes nothing.
 use mathlib.Core.Path.{sym, _∙_}
+use native.Mathlib.Omega.{arith}
 use borrow.Author.Needs.{needs}
 use Rattle.words.proofs.Lists.{same-eq}
 use Rattle.finder.proofs.Taking.{turned-by}
@@ -12,7 +13,7 @@ has-own-arrow-requires c κs = search needs
 from-whole-requires : tie.Need-from-whole-requires
 from-whole-requires c κs =
     let r = c .before .before in
-    (rw (r .before .if1 .taken) at (r .before .before .before .before .before .before .pre .1), same-eq _ _ (sym (r .has-own-arrow .ensures) ∙ c .before .if2 .taken))
+    (rw (r .before .if1 .taken) at (r .before .before .before .before .before .before .pre .2), same-eq _ _ (sym (r .has-own-arrow .ensures) ∙ c .before .if2 .taken))
 
 same-length : tie.Need-same-length
 same-length c = search needs
@@ -23,7 +24,9 @@ returns c =
     rw (f .before .before .before .before .if1 .taken) (f .from-whole .ensures)
 
 advance-requires : tie.Need-advance-requires
-advance-requires c κs = search needs
+advance-requires c κs =
+    let q = c .before .before .before .before .before .pre in
+    (record { sheet = q .0; state = q .2 .state; inside = q .2 .inside; text = omega (arith, q .2 .text) }, q .1)
 
 write-place-requires : tie.Need-write-place-requires
 write-place-requires c κs = search needs
@@ -35,7 +38,7 @@ returns-2 : tie.Need-returns-2
 returns-2 c =
     let r = c .before .before in
     let v = r .before .before in
-    turned-by (v .before .before .before .before .before .before .pre .1) (v .advance .result) (v .advance .ensures) _ _ (r .write-place .ensures)
+    turned-by (v .before .before .before .before .before .before .pre .2) (v .advance .result) (v .advance .ensures) _ _ (r .write-place .ensures)
 
 pub take-turn-spec : {M : Type 1} → statement M
 take-turn-spec =
