@@ -272,12 +272,14 @@ fn stretch(sheet: &[u8], code: &[u8], width: usize, p: usize, piece: &[u8], i: u
     }
 }
 
-// From any state, as long as it is neither 0 nor m and bytes are left; that may be none.
-fn run_by(sheet: &[u8], code: &[u8], width: usize, p: usize, piece: &[u8], from: usize) -> Led
-    requires { ⌜ Running (now sheet) (now code) p (now piece) from × (width ≡ number-width (length (now code))) ⌝ }
+// From any state, as long as it is neither 0 nor m and bytes are left; that may be none. The compiler makes a loop for each width of a number: with the width
+// asked for once before the loop, codes with a short sheet are read as fast as when there were no others.
+fn run(sheet: &[u8], code: &[u8], p: usize, piece: &[u8], from: usize) -> Led
+    requires { ⌜ Running (now sheet) (now code) p (now piece) from ⌝ }
     ensures { λ r. ⌜ Ran-from (now (code .entry)) (now (piece .entry)) p from r ⌝ }
 {
     let m = code.len();
+    let width = number_width(m);
     let mut state = p;
     let mut cost: u64 = 0;
     let mut i = from;
@@ -292,18 +294,6 @@ fn run_by(sheet: &[u8], code: &[u8], width: usize, p: usize, piece: &[u8], from:
         cost: cost,
         at: i,
     }
-}
-
-// The same, by the code's length. Each call names the width, so that the compiler makes a loop for each: with the width as a variable worst cases were
-// about 0.6 times as fast.
-fn run(sheet: &[u8], code: &[u8], p: usize, piece: &[u8], from: usize) -> Led
-    requires { ⌜ Running (now sheet) (now code) p (now piece) from ⌝ }
-    ensures { λ r. ⌜ Ran-from (now (code .entry)) (now (piece .entry)) p from r ⌝ }
-{
-    if number_width(code.len()) == 1 {
-        return run_by(sheet, code, 1, p, piece, from);
-    }
-    run_by(sheet, code, 2, p, piece, from)
 }
 
 // The first index from one on at which a byte stands, or the end: one comparison for each byte passed, and one for the byte found.
