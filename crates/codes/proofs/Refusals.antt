@@ -1,6 +1,6 @@
 -- Laws of refusals: what a list without one tells, what an answer is, and what a code without a refusal is. A list of refusals computes once its tests are
 -- known: one rewriting for each test decides it. Assumes nothing.
-use mathlib.Core.Path.{_≡_, refl, ap, _∙_}
+use mathlib.Core.Path.{_≡_, refl, sym, ap, _∙_}
 use mathlib.Core.Bool.{Bool, true, false, not}
 use mathlib.Core.List.{List, [], _∷_}
 use mathlib.Core.Logic.{_≢_}
@@ -11,10 +11,12 @@ use lib.ListN.{length}
 use borrow.Author.Tests.{eq-eqb, ne-eqb, lt-ltb, le-ltb, eqb-true, eqb-false, ltb-false}
 use Rattle.words.specs.Words.{Every}
 use Rattle.words.proofs.Tests.{by-test}
+use Rattle.automaton.specs.Ceilings.{total-ceiling}
 use Rattle.codes.specs.declared.Answer.the-variants.{Value, Refused}
-use Rattle.codes.specs.Refusals.{refused-if, first-refusal, answered}
+use Rattle.codes.specs.Refusals.{refused-if, first-refusal, answered, answer-refusal}
 use Rattle.codes.specs.Codes.{length-refusal, longest-code, has-control, code-refusal, accepted}
-use Rattle.codes.specs.Promise.{Answers-told, Codes-accepted}
+use Rattle.codes.specs.Entry.{total-answer}
+use Rattle.codes.specs.Promise.{Answers-told, Codes-accepted, Lengths-accepted}
 use Rattle.codes.proofs.Controls.{clean-bytes, bytes-clean}
 
 -- NO REFUSAL: none of the list, and no condition holds
@@ -127,3 +129,12 @@ codes-accepted w = (
   λ e. let b = accepted-bounds w e in (b .0, b .1, clean-bytes w (code-clean w (accepted-none w e))),
   λ h. accepted-within w (h .0) (h .1) ∙ ap not (bytes-clean w (h .2)),
 )
+
+pub lengths-accepted : Lengths-accepted
+unfolding Lengths-accepted Answers-told total-answer
+lengths-accepted m n =
+    let r : ℕ = length-refusal longest-code m in
+    let told : answer-refusal (answered r (total-ceiling m n)) ≡ r = answers-told r (total-ceiling m n) .0 in (
+      λ e. length-bounds longest-code m (sym told ∙ e),
+      λ h. told ∙ length-good longest-code m (λ z. omega (arith, h .0)) (h .1),
+    )

@@ -12,7 +12,7 @@ use Rattle.runs.specs.Reading.{fed, ending-refusal, ending-full}
 use Rattle.runs.specs.Calls.{Outcome, run, Call, called}
 use Rattle.automaton.specs.Ceilings.{byte-ceiling, total-ceiling}
 use Rattle.automaton.specs.Costs.{costs, sum}
-use Rattle.codes.specs.Codes.{longest-code, has-control, accepted}
+use Rattle.codes.specs.Codes.{has-control, accepted}
 use Rattle.sheets.specs.Sheet.{sheet}
 use Rattle.sheets.specs.Entry.{prepare-refusal, prepare-buffer}
 use Rattle.finder.specs.declared.Watch.{Watch}
@@ -89,7 +89,7 @@ Sheets-told =
     (x : Watch) (l : Lent) →
     ((buffer : List ℕ) →
     (ending-refusal (feed-call buffer x l .answer .ending) ≡ 4) ↔ ((w rest : List ℕ) → accepted w ≡ true → buffer ≢ sheet w ++ rest))
-    × ((w rest : List ℕ) → 1 ≤ length w → length w ≤ longest-code →
+    × ((w rest : List ℕ) → 1 ≤ length w → length w ≤ 4000 →
     (ending-refusal (feed-call (sheet w ++ rest) x l .answer .ending) ≡ 4) ↔ (has-control w ≡ true))
 
 -- bytes behind the sheet are not looked at, whatever the watch

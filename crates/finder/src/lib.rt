@@ -65,7 +65,7 @@ pub struct Feeding {
     pub ending: Ending,
 }
 
-// READING A SHEET: only the next three functions know where its bytes are, and what they tell is told of the code.
+// READING A SHEET: only the next three functions know where its length, counts and targets are, and what they tell is told of the code.
 
 // The code's length.
 fn code_length(sheet: &[u8]) -> usize

@@ -35,6 +35,25 @@ fn is_found(m: usize, length: usize, first: &[u8; 3]) -> bool {
         & is_list(&list, &[0, 1])
 }
 
+// Whether the code `a` and 299 letters `b` has a sheet whose counts need their high byte: each state but 0 has one backward arrow, so the last count is 300.
+// And whether it is found where it stands twice in a row.
+fn is_counted() -> bool {
+    let mut text = [98u8; 600];
+    put(&mut text, 0, 97);
+    put(&mut text, 300, 97);
+    let mut sheet = [UNTOUCHED; 1506];
+    let a = sheets::prepare(part(&text, 0, 300), &mut sheet);
+    let mut list = [UNWRITTEN; 3];
+    let f = finder::feed(&sheet, Watch::open(), &text, &mut list);
+    answers(a, 1505)
+        & (at(&sheet, 903) == 1)
+        & (at(&sheet, 904) == 44)
+        & (at(&sheet, 1505) == UNTOUCHED)
+        & ended(f, 0, 0)
+        & (f.watch.compares == 1198)
+        & is_list(&list, &[0, 300])
+}
+
 // Whether the code of m letters is refused with a number in a buffer of so many bytes, which stays as it was.
 fn is_refused(number: u32, m: usize, room: usize) -> bool {
     let mut buffer = [UNTOUCHED; 20005];
@@ -66,6 +85,7 @@ pub fn lengths() -> Tally
     t = add(t, is_found(255, 513, b"\xffaa"));
     t = add(t, is_found(256, 775, b"\x00\x01\x00"));
     t = add(t, is_found(4000, 12007, b"\x00\x0f\xa0"));
+    t = add(t, is_counted());
     t = add(t, is_refused(2, 4001, 20005));
     t = add(t, is_refused(2, 4001, 0));
     t = add(t, is_refused(3, 255, 766));

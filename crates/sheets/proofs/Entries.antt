@@ -2,25 +2,25 @@
 use mathlib.Core.Path.{_≡_, refl, sym, ap, _∙_}
 use mathlib.Core.Bool.{Bool, true, false}
 use mathlib.Core.List.{List, [], _∷_}
-use mathlib.Core.Logic.{_≢_}
-use Prim.Native.Nat.{ℕ, _+_, _-_, _≤_, _<_}
+use mathlib.Core.Logic.{_≢_, _↔_}
+use Prim.Native.Nat.{ℕ, _+_, _*_, _-_, _≤_, _<_}
 use native.Mathlib.Omega.{arith}
 use lib.Dec.{ltb}
 use lib.ListN.{length, take, drop, length-drop}
 use lib.Seq.{take-append-seam, length-take-le}
 use borrow.Author.Tests.{ne-eqb, lt-ltb, le-ltb}
 use Rattle.words.specs.Words.{same, in-front}
-use Rattle.words.proofs.Tests.{by-test, by-eq}
+use Rattle.words.proofs.Tests.{by-test, by-le, by-eq}
 use Rattle.words.proofs.Lists.{in-front-long}
 use Rattle.codes.specs.declared.Answer.the-variants.{Value, Refused}
 use Rattle.codes.specs.Refusals.{refused-if, first-refusal}
-use Rattle.codes.specs.Codes.{code-refusal}
+use Rattle.codes.specs.Codes.{code-refusal, accepted}
 use Rattle.codes.proofs.Refusals.{none-of, first-here, answered-value, answered-refusal, code-bounds, accepted-none, none-accepted}
 use Rattle.sheets.specs.Sheet.{number-width, code-start, sheet, sheet-room, longest-sheet, named-length, named, begins}
 use Rattle.sheets.specs.Entry.{prepare-refusal, prepare-answer, prepare-buffer, Prepare-says}
-use Rattle.sheets.specs.Promise.{Prepare-makes}
+use Rattle.sheets.specs.Promise.{Room-asked, Prepare-makes}
 use Rattle.sheets.specs.Inside.{Fits-in, Sheet-made, Freshly}
-use Rattle.sheets.proofs.Widths.{start-range, room-bound}
+use Rattle.sheets.proofs.Widths.{start-range, short-target, wide-target, room-is, room-bound}
 use Rattle.sheets.proofs.Sheets.{begins-accepted, begins-bounds, begins-size, begins-long}
 
 -- a code that is not refused, and room for its sheet
@@ -64,6 +64,25 @@ prepare-roomy w k h =
 pub prepare-makes : Prepare-makes
 unfolding Prepare-makes prepare-refusal prepare-buffer in-front
 prepare-makes w a none = (none-accepted w (none-of _ none .0), rw none refl)
+
+-- so the room asked for decides
+room-decides : (w : List ℕ) (k n : ℕ) → accepted w ≡ true → sheet-room (length w) ≡ n → (prepare-refusal w k ≡ 3) ↔ (k < n)
+unfolding prepare-refusal first-refusal refused-if
+room-decides w k n good e = (
+  λ h.
+      by-le (sheet-room (length w)) k
+      (λ (l : sheet-room (length w) ≤ k). let none : 0 ≡ 3 = rw (accepted-none w good, le-ltb k (sheet-room (length w)) l) at h in absurd (omega arith))
+      (λ (l : k < sheet-room (length w)). omega (arith, l, e)),
+  λ h. rw (accepted-none w good, lt-ltb k (sheet-room (length w)) (omega (arith, h, e))) refl,
+)
+
+pub room-asked : Room-asked
+unfolding Room-asked
+room-asked w k good =
+    let m : ℕ = length w in (
+      λ h. room-decides w k (3 * m + 2) good (room-is m ∙ short-target m h m ∙ omega arith),
+      λ h. room-decides w k (5 * m + 5) good (room-is m ∙ wide-target m h m ∙ omega arith),
+    )
 
 -- A SHEET PREPARED AFRESH in a work area, compared
 pub made-long : {w a b : List ℕ} {n : ℕ} → Sheet-made w n a b → n ≤ length b

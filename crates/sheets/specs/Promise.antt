@@ -2,11 +2,12 @@
 use mathlib.Core.Path.{_≡_}
 use mathlib.Core.Bool.{true, false, not}
 use mathlib.Core.List.{List, [], _∷_, _++_}
+use mathlib.Core.Logic.{_↔_}
 use Prim.Native.Nat.{ℕ, suc, _+_, _*_, _/_, _%_, _≤_, _<_}
 use lib.ListN.{length, drop}
 use Rattle.words.specs.Words.{in-front}
 use Rattle.automaton.specs.Arrows.{all-targets, back-arrows}
-use Rattle.codes.specs.Codes.{longest-code, has-control, accepted}
+use Rattle.codes.specs.Codes.{has-control, accepted}
 use Rattle.sheets.specs.Sheet.{number, numbers, counts-below, layout, sheet, sheet-room, named, begins}
 use Rattle.sheets.specs.Entry.{prepare-refusal, prepare-buffer}
 
@@ -40,9 +41,16 @@ Sheet-once =
 -- exception: the code has a control byte, one below 32. And no other buffer is accepted
 unfoldable pub Begins-right : Type 0
 Begins-right =
-    ((w rest : List ℕ) → 1 ≤ length w → length w ≤ longest-code →
+    ((w rest : List ℕ) → 1 ≤ length w → length w ≤ 4000 →
     (named (sheet w ++ rest) ≡ w) × (begins (sheet w ++ rest) ≡ not (has-control w)))
     × ((bs : List ℕ) → begins bs ≡ true → (accepted (named bs) ≡ true) × (bs ≡ in-front (sheet (named bs)) bs))
+
+-- THE ROOM that preparing asks for
+unfoldable pub Room-asked : Type 0
+Room-asked =
+    (w : List ℕ) (room : ℕ) → accepted w ≡ true →
+    (length w ≤ 255 → (prepare-refusal w room ≡ 3) ↔ (room < 3 * length w + 2))
+    × (255 < length w → (prepare-refusal w room ≡ 3) ↔ (room < 5 * length w + 5))
 
 -- preparing that is not refused leaves such a buffer, of the code that it was given
 unfoldable pub Prepare-makes : Type 0
