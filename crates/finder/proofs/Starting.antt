@@ -46,7 +46,8 @@ pub record Started (w : List ℕ) (back : ℕ) (piece : List ℕ) (from failed i
   pub began : Startable w back piece from
   pub leads : Leads w piece 0 from 0 (i - from + failed) i
 
-pub startable : {bs w : List ℕ} {p : ℕ} {piece : List ℕ} {i : ℕ} → Readable bs w p piece i → (back : ℕ) → back ≡ arrows-below w 2 → Startable w back piece i
+pub startable : {bs w : List ℕ} {p : ℕ} {piece : List ℕ} {i : ℕ} → Readable bs w p piece i → (back : ℕ) → back ≡ arrows-below w 2 →
+    Startable w back piece i
 startable g back e =
     let b = coded-bounds (g .sheet) in record { some = b .0; few = b .1; back-is = e; inside = g .inside; text = g .text }
 

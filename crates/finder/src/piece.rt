@@ -150,8 +150,8 @@ fn take_turn(
     )
 }
 
-// The bytes of a piece, until it ends or the list is full. How many backward arrows state 1 has is read once. From turn to turn only the state, the cost and the two counts are kept: the whole watch, carried
-// along, was slower.
+// The bytes of a piece, until it ends or the list is full. How many backward arrows state 1 has is read once. From turn to turn only the state, the cost and
+// the two counts are kept: the whole watch, carried along, was slower.
 fn take_bytes(sheet: &[u8], code: &[u8], watch: Watch, piece: &[u8], places: &mut [u32]) -> Feeding
     requires { ⌜ Coded (now sheet) (now code) × Ready (length (now code)) watch (length (now piece)) ⌝ }
     ensures { λ r. ⌜ Took (now (code .entry)) watch (lent (now (piece .entry)) (now (places .entry))) r (lent (now (piece .exit)) (now (places .exit))) ⌝ }

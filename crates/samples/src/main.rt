@@ -1,6 +1,6 @@
 // Document 01's own samples, run: its bench samples, its refusals, and its errors near at hand, through the library's entry points; the control bytes of
-// request 107 and the lengths of request 103. Each function here is proved safe and ending; what it answers is seen by running it. tests/beside.c holds the library to a naive search
-// and to the document's machine, on many more codes and texts.
+// request 107 and the lengths of request 103. Each function here is proved safe and ending; what it answers is seen by running it. tests/beside.c holds the
+// library to a naive search and to the document's machine, on many more codes and texts.
 mod bench;
 mod controls;
 mod lengths;
