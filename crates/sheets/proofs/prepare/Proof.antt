@@ -1,14 +1,17 @@
 -- `prepare` meets its contract. Assumes nothing.
 use mathlib.Core.Path.{_≡_, sym, _∙_}
-use Prim.Native.Nat.{_≤_}
+use mathlib.Core.List.{List}
+use Prim.Native.Nat.{ℕ, _≤_}
 use native.Mathlib.Nat.{le-refl}
 use native.Mathlib.Omega.{arith}
 use lib.ListN.{length}
+use Rattle.codes.specs.declared.Answer.the-variants.{Value}
 use Rattle.codes.specs.Codes.{code-refusal}
 use Rattle.codes.proofs.Refusals.{code-bounds}
-use Rattle.sheets.specs.Inside.{Numbered}
-use Rattle.sheets.specs.Sheet.{sheet-room}
-use Rattle.sheets.proofs.Widths.{short-width, wide-width, one-byte, two-bytes, room-is}
+use Rattle.sheets.specs.Inside.{Numbered, Fits-in, Sheet-made}
+use Rattle.sheets.specs.Sheet.{number-width, sheet-room}
+use Rattle.sheets.specs.Entry.{Prepare-says}
+use Rattle.sheets.proofs.Widths.{wide-width, two-bytes, room-is}
 use Rattle.sheets.proofs.Entries.{fits-in, says-code-refused, says-small, says-prepared}
 use borrow.Author.Needs.{needs}
 use Rattle.sheets.proofs.prepare.Statement.{statement}
@@ -25,8 +28,19 @@ numbered c = record { few = code-bounds _ (none (c .before)) .1; width-is = c .n
 room : (c : tie.After-target-place) → c .target-place .result ≡ sheet-room (length (c .before .before .before .before .before .before .args .code .now))
 room c = c .target-place .ensures ∙ sym (room-is (length (c .before .before .before .before .before .before .args .code .now)))
 
-fits : (c : tie.Else2) → sheet-room (length (c .before .before .before .before .before .before .before .args .code .now)) ≤ length (c .before .before .before .before .before .before .before .args .buffer .now)
-fits c = omega (arith, room (c .before), c .if2 .left)
+-- past the second test the buffer has it
+abbrev entry : tie.Else2 → tie.Start
+entry c = c .before .before .before .before .before .before .before
+
+enough : (c : tie.Else2) → let a = entry c .args in sheet-room (length (a .code .now)) ≤ length (a .buffer .now)
+enough c = omega (arith, room (c .before), c .if2 .left)
+
+fits : (c : tie.Else2) (width : ℕ) → let a = entry c .args in number-width (length (a .code .now)) ≡ width → Fits-in (a .code .now) width (a .buffer .now)
+fits c width e = fits-in _ _ width (none (c .before .before .before)) (sym e) (enough c)
+
+prepared : (c : tie.Else2) (n : ℕ) (b : List ℕ) → let a = entry c .args in
+    Sheet-made (a .code .now) n (a .buffer .now) b → Prepare-says (a .code .now) (Value n) (a .buffer .now) b
+prepared c n b m = let a = entry c .args in says-prepared (a .code .now) (a .buffer .now) (none (c .before .before .before)) (enough c) n b m
 
 code-refusal-requires : tie.Need-code-refusal-requires
 code-refusal-requires c κs = search needs
@@ -48,38 +62,25 @@ returns-2 c =
     says-small (a .code .now) (a .buffer .now) (none (c .before .before .before)) (rw (room (c .before)) at (c .if2 .taken))
 
 fill-requires : tie.Need-fill-requires
-fill-requires c κs =
-    let e = c .before .before in
-    let w = e .before .before in
-    let m = length (c .before .before .before .before .before .before .before .before .before .args .code .now) in
-    let short = one-byte m (sym (w .number-width .ensures) ∙ c .before .if3 .taken) in
-    fits-in _ _ 1 (none (w .before)) (sym (short-width m short)) (fits e)
+fill-requires c κs = let e = c .before .before in fits e 1 (sym (e .before .before .number-width .ensures) ∙ c .before .if3 .taken)
 
 same-length : tie.Need-same-length
 same-length c = search needs
 
 returns-3 : tie.Need-returns-3
-returns-3 c =
-    let a = c .before .before .before .before .before .before .before .before .before .before .before .before .args in
-    let f = c .before .before .fill in
-    says-prepared (a .code .now) (a .buffer .now) (none (c .before .before .before .before .before .before .before .before)) (fits (c .before .before .before .before .before)) (f .result) (f .last .1 .1 .0) (f .ensures)
+returns-3 c = let f = c .before .before .fill in prepared (c .before .before .before .before .before) (f .result) (f .last .1 .1 .0) (f .ensures)
 
 fill-requires-2 : tie.Need-fill-requires-2
 fill-requires-2 c κs =
     let e = c .before .before in
-    let w = e .before .before in
-    let m = length (c .before .before .before .before .before .before .before .before .before .args .code .now) in
-    let wide = two-bytes m (λ e. c .before .if3 .left (w .number-width .ensures ∙ e)) in
-    fits-in _ _ 2 (none (w .before)) (sym (wide-width m wide)) (fits e)
+    let w = e .before .before .number-width in
+    fits e 2 (wide-width _ (two-bytes _ (λ z. c .before .if3 .left (w .ensures ∙ z))))
 
 same-length-2 : tie.Need-same-length-2
 same-length-2 c = search needs
 
 returns-4 : tie.Need-returns-4
-returns-4 c =
-    let a = c .before .before .before .before .before .before .before .before .before .before .before .before .args in
-    let f = c .before .before .fill2 in
-    says-prepared (a .code .now) (a .buffer .now) (none (c .before .before .before .before .before .before .before .before)) (fits (c .before .before .before .before .before)) (f .result) (f .last .1 .1 .0) (f .ensures)
+returns-4 c = let f = c .before .before .fill2 in prepared (c .before .before .before .before .before) (f .result) (f .last .1 .1 .0) (f .ensures)
 
 pub prepare-spec : {M : Type 1} → statement M
 prepare-spec =
