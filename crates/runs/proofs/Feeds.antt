@@ -2,12 +2,12 @@
 use mathlib.Core.Path.{_≡_, refl, sym, ap, _∙_}
 use mathlib.Core.Bool.{Bool, true, false, _&&_, cond, and-false}
 use mathlib.Core.List.{List, [], _∷_, _++_, append-nil, append-assoc}
-use Prim.Native.Nat.{ℕ, suc, _+_, _*_, _-_, _≤_, _<_}
+use Prim.Native.Nat.{ℕ, zero, suc, _+_, _*_, _-_, _≤_, _<_}
 use native.Mathlib.Nat.{add-zero, sub-zero}
 use native.Mathlib.Numerals.{add-one}
 use native.Mathlib.Omega.{arith}
 use lib.Dec.{ltb}
-use lib.ListN.{length, getD, drop, length-append, drop-of-length-le}
+use lib.ListN.{length, getD, take, drop, length-append, drop-of-length-le}
 use lib.Seq.{drop-cons}
 use borrow.Author.Tests.{lt-ltb, le-ltb, ltb-true}
 use Rattle.words.proofs.Tests.{by-le, and-left, and-right}
@@ -85,6 +85,22 @@ module _ {X A : Type 0} (d : Reader X A) where
     told-room =
         feed-cases (λ cs k x f. length (f .told) ≤ k) (λ k x. omega arith) (λ c cs k x h. omega arith)
         (λ c cs k x f h u. omega (arith, few c x, length-append (d .tells c x) (f .told)))
+
+    -- before each byte that is taken, enough spots are free behind what the bytes before it told
+    pub spots-before : (cs : List ℕ) (k : ℕ) (x : X) (i : ℕ) → i < feed d cs k x .taken → d .needs + length (feed d (take i cs) k x .told) ≤ k
+    unfolding fed-more
+    spots-before =
+        feed-cases (λ cs k x f. (i : ℕ) → i < f .taken → d .needs + length (feed d (take i cs) k x .told) ≤ k) (λ k x i l. absurd (omega arith))
+        (λ c cs k x h i l. absurd (omega arith)) on
+      where
+        on : (c : ℕ) (cs : List ℕ) (k : ℕ) (x : X) (f : Fed X A) → d .needs ≤ k →
+            ((i : ℕ) → i < f .taken →
+            d .needs + length (feed d (take i cs) (k - length (d .tells c x)) (d .byte c x) .told) ≤ k - length (d .tells c x)) →
+            (i : ℕ) → i < 1 + f .taken → d .needs + length (feed d (take i (c ∷ cs)) k x .told) ≤ k
+        on c cs k x f h u zero l = rw (feed-end k x) (omega arith)
+        on c cs k x f h u (suc i) l =
+            let told : List A = feed d (take i cs) (k - length (d .tells c x)) (d .byte c x) .told in
+            rw (feed-on c (take i cs) k x h) (omega (arith, u i (omega arith), few c x, length-append (d .tells c x) told))
 
     pub takes-whole : (cs : List ℕ) (k : ℕ) (x : X) → d .needs * length cs ≤ k → feed d cs k x .taken ≡ length cs
     unfolding fed-more

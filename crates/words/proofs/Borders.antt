@@ -62,7 +62,7 @@ border-prev w p x inside a =
 -- THE LONGEST border
 pub longest-is : (w : List ℕ) (p : ℕ) → 0 < p → Largest (Border w p) (p - 1) (border-of w p)
 unfolding border-of
-longest-is w p h = largest-is (is-border w p) (Border w p) (border-is w p) (border-test w p) (border-zero w p h) (p - 1)
+longest-is w p h = largest-is (is-border w p) (Border w p) (border-is w p) (λ x l. border-test w p x) (border-zero w p h) (p - 1)
 
 -- BYTES: those of a border stand again at the end, so the first p bytes have the period p - b
 pub border-byte : (w : List ℕ) (p b : ℕ) → p ≤ length w → Border w p b → (i : ℕ) → i < b → byte w i ≡ byte w (i + (p - b))

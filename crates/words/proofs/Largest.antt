@@ -39,7 +39,7 @@ largest-wider P k l x h f u =
     }
 
 -- what `largest` finds
-module _ (t : ℕ → Bool) (P : ℕ → Type 0) (to : (x : ℕ) → t x ≡ true → P x) (from : (x : ℕ) → P x → t x ≡ true) (start : P 0) where
+module _ (t : ℕ → Bool) (P : ℕ → Type 0) (to : (x : ℕ) → t x ≡ true → P x) (from : (x : ℕ) → 0 < x → P x → t x ≡ true) (start : P 0) where
   pub largest-is : (l : ℕ) → Largest P l (largest t l)
   unfolding largest
   largest-is zero = record { bound = omega arith; holds = start; none = λ y a b q. absurd (omega arith) }
@@ -49,12 +49,32 @@ module _ (t : ℕ → Bool) (P : ℕ → Type 0) (to : (x : ℕ) → t x ≡ tru
       go true e u = record { bound = omega arith; holds = to (suc l) e; none = λ y a b q. absurd (omega arith) }
       go false e u =
           largest-wider P l (suc l) (largest t l) (omega arith)
-          (λ y a b q. let d : suc l ≡ y = omega arith in never-both (rw d (from y q)) e) u
+          (λ y a b q. let d : suc l ≡ y = omega arith in never-both (rw d (from y (omega arith) q)) e) u
+
+-- of any test: what passes is the number found, unless it is 0
+pub largest-passing : (t : ℕ → Bool) (l : ℕ) → Largest (λ x. 0 < x → t x ≡ true) l (largest t l)
+largest-passing t l = largest-is t (λ x. 0 < x → t x ≡ true) (λ x e h. e) (λ x h p. p h) (λ h. absurd (omega arith)) l
+
+-- it is l where l passes; none between k and l counts where none passes; it is the same for tests that agree
+pub largest-whole : (t : ℕ → Bool) (l : ℕ) → t l ≡ true → largest t l ≡ l
+unfolding largest
+largest-whole t zero e = refl
+largest-whole t (suc l) e = rw e
+
+pub largest-cut : (t : ℕ → Bool) (k l : ℕ) → k ≤ l → ((x : ℕ) → k < x → x ≤ l → t x ≡ false) → largest t l ≡ largest t k
+largest-cut t k l h f =
+    largest-one (λ x. 0 < x → t x ≡ true) l (largest t l) (largest t k) (largest-passing t l)
+    (largest-wider (λ x. 0 < x → t x ≡ true) k l (largest t k) h (λ y a b q. never-both (q (omega arith)) (f y a b)) (largest-passing t k))
+
+pub largest-agree : (t s : ℕ → Bool) (l : ℕ) → ((x : ℕ) → x ≤ l → t x ≡ s x) → largest t l ≡ largest s l
+unfolding largest
+largest-agree t s zero e = refl
+largest-agree t s (suc l) e = rw (e (suc l) (omega arith), largest-agree t s l (λ x h. e x (omega arith)))
 
 -- THE STATE of a text
 pub state-is : (w ts : List ℕ) → Largest (Ends ts w) (length w) (state-of w ts)
 unfolding state-of
-state-is w ts = largest-is (ends-with ts w) (Ends ts w) (ends-is ts w) (ends-test ts w) (ends-zero ts w) (length w)
+state-is w ts = largest-is (ends-with ts w) (Ends ts w) (ends-is ts w) (λ x h. ends-test ts w x) (ends-zero ts w) (length w)
 
 pub state-read : (w ts : List ℕ) → state-of w ts ≤ length ts
 state-read w ts = state-is w ts .holds .fits

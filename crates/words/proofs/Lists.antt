@@ -10,7 +10,7 @@ use lib.ListN.{length, getD, take, drop, length-append, length-drop, drop-of-len
 use lib.Seq.{take-at, getD-at, take-add, drop-at, drop-drop, drop-append-le, length-take-le}
 use borrow.Author.Tests.{eqb-true, eqb-false, eq-eqb, ne-eqb}
 use Rattle.words.specs.Words.{member, Every, same, suffix, in-front}
-use Rattle.words.proofs.Tests.{by-test, never-both, and-left, and-right, and-both}
+use Rattle.words.proofs.Tests.{by-test, never-both, fails, and-left, and-right, and-both, same-test}
 
 -- EQUALITY
 pub same-refl : (xs : List ℕ) → same xs xs ≡ true
@@ -32,7 +32,11 @@ same-eq (x ∷ xs) (y ∷ ys) e =
     cc
 
 pub not-same : (xs ys : List ℕ) → xs ≢ ys → same xs ys ≡ false
-not-same xs ys n = by-test (same xs ys) (λ e. absurd (n (same-eq xs ys e))) (λ e. e)
+not-same xs ys n = fails (same xs ys) (λ e. n (same-eq xs ys e))
+
+pub same-sym : (xs ys : List ℕ) → same xs ys ≡ same ys xs
+same-sym xs ys =
+    same-test (same xs ys) (same ys xs) (λ e. eq-same (sym (same-eq xs ys e))) (λ e. eq-same (sym (same-eq ys xs e)))
 
 -- a list of one with another
 pub same-one : (xs : List ℕ) (v : ℕ) → length xs ≡ 1 → same xs (v ∷ []) ≡ eqb (getD xs 0 0) v
