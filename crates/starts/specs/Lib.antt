@@ -1,0 +1,3 @@
+pub mod Starts
+pub mod Hits
+pub mod Samples
