@@ -1,0 +1,66 @@
+-- `advance` meets its contract. Assumes nothing.
+use mathlib.Core.Logic.{⊎-elim}
+use native.Mathlib.Omega.{arith}
+use Rattle.boards.proofs.Advancing.{At, at-here, at-stop, at-inside, step-needs, by-step, enter-needs, by-enter}
+use Rattle.boards.proofs.piece.advance.Statement.{statement}
+use Rattle.boards.proofs.piece.advance.Tie as tie
+
+-- the function's entry, from where passing has ended
+abbrev entry : tie.Joined1 → tie.Start
+entry c = c .before .before .before .before .before .before .before .before .before .before
+
+-- there the next bytes are
+next-at : (c : tie.Joined1) → let a = entry c .args in At (a .first .now) (a .second .now) (a .piece .now) (a .g) (a .i) (c .if1 .p)
+next-at c =
+    ⊎-elim
+    (λ w. at-stop (w .0 .taken) (w .1 .ensures) (w .2))
+    (λ w. at-here (w .0 .left) (entry c .pre .advancing .inside) (w .1))
+    (c .if1 .came)
+
+pass-requires : tie.Need-pass-requires
+pass-requires c κs =
+    let v = c .before .before .before .before .before .before .before .before .before .before .pre .advancing in
+    record { first-long = v .pairs .first-long; second-long = v .pairs .second-long; inside = v .inside }
+
+add-if4 : tie.Need-add-if4
+add-if4 c = omega (arith, at-inside (next-at (c .before .before .before)))
+
+enter-requires : tie.Need-enter-requires
+enter-requires c κs =
+    let j = c .before .before .before .before in
+    enter-needs (entry j .pre .advancing) (next-at j) (c .before .before .before .if2 .taken) (c .before .before .if3 .taken) (c .if4 .taken)
+
+add-t21 : tie.Need-add-t21
+add-t21 c = omega (arith, at-inside (next-at (c .before .before .before .before .before)))
+
+returns : tie.Need-returns
+returns c = λ ws u v.
+    let t = c .before in
+    by-enter v (next-at (t .before .before .before .before)) (t .before .before .before .if2 .taken) (t .before .before .if3 .taken) (t .if4 .taken)
+    (c .enter .ensures)
+
+shared-slice-read-step : tie.Need-shared-slice-read-step
+shared-slice-read-step c = at-inside (next-at (c .before .before))
+
+step-requires : tie.Need-step-requires
+step-requires c κs = step-needs (entry (c .before .before) .pre .advancing)
+
+add-t25 : tie.Need-add-t25
+add-t25 c = omega (arith, at-inside (next-at (c .before .before .before .before)))
+
+returns-2 : tie.Need-returns-2
+returns-2 c = λ ws u v. by-step v (next-at (c .before .before .before .before)) (c .before .step .ensures)
+
+pub advance-spec : {M : Type 1} → statement M
+advance-spec =
+    tie.close
+    (tie.spec
+    pass-requires
+    add-if4
+    enter-requires
+    add-t21
+    returns
+    shared-slice-read-step
+    step-requires
+    add-t25
+    returns-2)

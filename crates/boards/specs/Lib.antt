@@ -1,0 +1,9 @@
+pub mod Board
+pub mod Tables
+pub mod Written
+pub mod Pairs
+pub mod Feed
+pub mod Entry
+pub mod Inside
+pub mod Promise
+pub mod Runs
