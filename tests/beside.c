@@ -11,6 +11,8 @@
 #include "odd.h"
 #include "wide.h"
 
+const char *const test_name = "beside";
+
 enum {
     LONG_TEXT = 600, /* bytes */
     LONG_CODES = 256 /* how many */

@@ -8,8 +8,6 @@
 enum { UNTOUCHED = 0xee }; /* a byte of a lent buffer before the call */
 
 static const uint32_t unwritten = 4000000000u; /* a number of a lent list before the call: no place here */
-static const char *group;
-static uint64_t compared;
 
 uint8_t code[LONGEST_CODE + 1], sheet[SHEET_ROOM + BEHIND], text[LONGEST_TEXT_HERE];
 size_t m, sheet_length, n;
@@ -22,30 +20,10 @@ static struct machine machine; /* what it does with the text */
 
 /* ---- Reports */
 
-static void print_bytes(const char *name, const uint8_t *bytes, size_t length)
-{
-    size_t i;
-
-    printf("%s of %zu bytes:", name, length);
-    for (i = 0; i < length; i++)
-        printf(" %02x", (unsigned)bytes[i]);
-    printf("\n");
-}
-
 static void print_answer(const char *name, const struct fed *f)
 {
     printf("%s: watch %" PRIu32 " %" PRIu32 " %" PRIu32 " %" PRIu64 ", taken %" PRIu32 ", written %" PRIu32 ", refusal %" PRIu32 ", full %" PRIu32 "\n",
            name, f->state, f->taken, f->hits, f->compares, f->read, f->written, f->refusal, f->full);
-}
-
-static void print_list(const char *name, const uint32_t *list, size_t length)
-{
-    size_t k;
-
-    printf("%s:", name);
-    for (k = 0; k < length; k++)
-        printf(" %" PRIu32, list[k]);
-    printf("\n");
 }
 
 static void print_cutting(void)
@@ -61,26 +39,13 @@ static void print_cutting(void)
 /* With the code and, in a run, the text and how it is cut. */
 void differ(const char *what)
 {
-    printf("beside: %s: %s\n", group, what);
+    print_difference(what);
     print_bytes("code", code, m);
     if (cutting.pieces > 0) {
         print_bytes("text", text, n);
         print_cutting();
     }
     exit(1);
-}
-
-void begin_group(const char *name)
-{
-    group = name;
-    compared = 0;
-    cutting.pieces = 0;
-}
-
-void end_group(void)
-{
-    printf("beside: %s: %" PRIu64 " calls compared\n", group, compared);
-    fflush(stdout);
 }
 
 /* ---- Comparing a call */
@@ -102,7 +67,7 @@ static int same_answer(const struct fed *a, const struct fed *b)
 /* Counts a call. Whether it answered and left in its list what it must; otherwise prints both. */
 static int is_same(const struct fed *answer, const uint32_t *list, const struct fed *expected, const uint32_t *expected_list)
 {
-    compared++;
+    count_call();
     if (same_answer(answer, expected) && memcmp(list, expected_list, (LIST + GUARD) * sizeof *list) == 0)
         return 1;
     print_answer("answered", answer);
@@ -117,11 +82,12 @@ void compare_prepare(size_t room)
     uint8_t expected[sizeof sheet];
     struct prepared answer, plain;
 
+    cutting.pieces = 0; /* this is no call of a run */
     memset(sheet, UNTOUCHED, sizeof sheet);
     memset(expected, UNTOUCHED, sizeof expected);
     answer = entries_prepare(code, m, sheet, room);
     plain = plain_prepare(code, m, expected, room);
-    compared++;
+    count_call();
     if (answer.length != plain.length || answer.refusal != plain.refusal || memcmp(sheet, expected, sizeof sheet) != 0) {
         printf("answered: length %" PRIu64 ", refusal %" PRIu32 "\n", answer.length, answer.refusal);
         printf("expected: length %" PRIu64 ", refusal %" PRIu32 "\n", plain.length, plain.refusal);
@@ -165,7 +131,6 @@ uint32_t compare_plain(const struct call *c)
 
 void use_code(void)
 {
-    cutting.pieces = 0;
     compare_prepare(plain_room(m) - 1);
     compare_prepare(plain_room(m));
     compare_prepare(SHEET_ROOM);

@@ -3,6 +3,7 @@
 #define CALLS_H
 
 #include "plain.h"
+#include "report.h"
 
 enum {
     GUARD = 8,     /* places behind a list that is lent */
@@ -42,10 +43,6 @@ struct call {
 };
 
 extern const struct fed opened; /* a new watch */
-
-/* Names a group of comparisons; prints how many calls were compared in it. */
-void begin_group(const char *name);
-void end_group(void);
 
 /* Ends the test with exit status 1, and says what differs. */
 void differ(const char *what);

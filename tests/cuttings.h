@@ -1,17 +1,9 @@
-/* Texts of a fixed generator, and the ways in which they are cut into pieces. */
+/* Texts much like a code, and the ways in which they are cut into pieces. */
 #ifndef CUTTINGS_H
 #define CUTTINGS_H
 
 #include "calls.h"
-
-void seed_random(uint64_t number);
-size_t random_below(size_t count);
-
-/* One of so many letters, from the least byte to the greatest. */
-uint8_t random_letter(size_t letters);
-
-/* A byte of a code: for one below 32 the one 32 above it. */
-uint8_t from_32(size_t byte);
+#include "random.h"
 
 /* A text of so many bytes: the code again and again, with a random letter or a new start about once in a code's length; every other letter may be a
    control byte. */

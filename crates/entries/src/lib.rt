@@ -8,6 +8,8 @@ use finder::Watch;
 use finder::feed;
 use sheets::prepare;
 
+mod board;
+
 // What preparing answers: the sheet's length, or 0 and the refusal's number.
 #[repr(C)]
 pub struct PreparedNumbers {

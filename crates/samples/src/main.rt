@@ -1,7 +1,8 @@
 // Document 01's own samples, run: its bench samples, its refusals, and its errors near at hand, through the library's entry points; the control bytes of
-// request 107 and the lengths of request 103. Each function here is proved safe and ending; what it answers is seen by running it. tests/beside.c holds the
-// library to a naive search and to the document's machine, on many more codes and texts.
+// request 107, the lengths of request 103 and a board of request 102. Each function here is proved safe and ending; what it answers is seen by running it.
+// tests/beside.c and tests/boards.c hold the library to a naive search, and to the document's machine, on many more codes and texts.
 mod bench;
+mod board;
 mod controls;
 mod lengths;
 mod refusals;
@@ -177,6 +178,7 @@ fn main() {
     let accepted = refusals::accepted();
     let controls = controls::controls();
     let lengths = lengths::lengths();
+    let board = board::board();
     print(b"sheets", sheets);
     print(b"searches", searches);
     print(b"errors near at hand", errors);
@@ -184,9 +186,10 @@ fn main() {
     print(b"accepted on the other side", accepted);
     print(b"control bytes", controls);
     print(b"lengths", lengths);
+    print(b"board", board);
     let bench = sum(sum(sheets.wrong, searches.wrong), errors.wrong);
     let refusals = sum(refused.wrong, accepted.wrong);
-    let requests = sum(controls.wrong, lengths.wrong);
+    let requests = sum(sum(controls.wrong, lengths.wrong), board.wrong);
     let wrong = sum(sum(bench, refusals), requests);
     io::write_all(1, b"wrong ");
     io::print_decimal(1, wrong as u64);
