@@ -6,7 +6,7 @@
 /* Random numbers: Marsaglia's xorshift with a multiplication, from a fixed seed. */
 static uint64_t random_state;
 
-static void seed(void)
+void seed_random(void)
 {
     random_state = 0x9E3779B97F4A7C15u;
 }
@@ -19,7 +19,7 @@ static uint64_t random_number(void)
     return random_state * 2685821657736338717u >> 16;
 }
 
-static unsigned below(unsigned n)
+unsigned random_below(unsigned n)
 {
     return (unsigned)(random_number() % n);
 }
@@ -35,22 +35,31 @@ static const char *const goods[] = {
 };
 static const char *const people[] = {"Marta", "Rosa", "Reto", "Ruth", "Anna", "Beat", "Urs", "Regula"};
 
+const char *random_bread(void)
+{
+    return breads[random_below(COUNT(breads))];
+}
+
+const char *random_good(void)
+{
+    return goods[random_below(COUNT(goods))];
+}
+
 /* One of a few frequent recipe numbers, or any other. */
 static unsigned recipe(void)
 {
-    unsigned x = below(100);
-    return x < 3 ? 1234 : x < 10 ? 12 : 100 + below(9900);
+    unsigned x = random_below(100);
+    return x < 3 ? 1234 : x < 10 ? 12 : 100 + random_below(9900);
 }
 
-/* Writes one line of a plan; every 16,384th line names each of two rare codes. */
-static int plan_line(char *line, size_t room, unsigned long number)
+int plan_line(char *line, size_t room, unsigned long number)
 {
-    unsigned year = 2019 + below(8), month = 1 + below(12), day = 1 + below(28), code = recipe();
-    int n = snprintf(line, room, "%04u-%02u-%02u R%u %s, %s:", year, month, day, code, breads[below(COUNT(breads))], people[below(COUNT(people))]);
+    unsigned year = 2019 + random_below(8), month = 1 + random_below(12), day = 1 + random_below(28), code = recipe();
+    int n = snprintf(line, room, "%04u-%02u-%02u R%u %s, %s:", year, month, day, code, random_bread(), people[random_below(COUNT(people))]);
 
-    for (unsigned k = 2 + below(4); k > 0; k--) {
-        const char *good = goods[below(COUNT(goods))];
-        n += snprintf(line + n, room - (size_t)n, " %s %u g,", good, 5 * (1 + below(600)));
+    for (unsigned k = 2 + random_below(4); k > 0; k--) {
+        const char *good = random_good();
+        n += snprintf(line + n, room - (size_t)n, " %s %u g,", good, 5 * (1 + random_below(600)));
     }
     if (number % 16384 == 0)
         n += snprintf(line + n, room - (size_t)n, " see PLUM-CAKE-77");
@@ -66,7 +75,7 @@ static void plans(uint8_t *text, size_t n, unsigned long to_a_line)
     char line[256];
     size_t at = 0;
 
-    seed();
+    seed_random();
     for (unsigned long number = 1; at < n; number++) {
         size_t length = (size_t)plan_line(line, sizeof line, number);
         size_t part = length < n - at ? length : n - at;
@@ -141,9 +150,9 @@ void ruler_of_12(uint8_t *text, size_t n)
 
 static void random_text(uint8_t *text, size_t n, uint8_t first, unsigned letters)
 {
-    seed();
+    seed_random();
     for (size_t i = 0; i < n; i++)
-        text[i] = (uint8_t)(first + below(letters));
+        text[i] = (uint8_t)(first + random_below(letters));
 }
 
 void random_2(uint8_t *text, size_t n)

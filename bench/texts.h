@@ -22,4 +22,13 @@ text_maker random_256;         /* random bytes */
 text_maker random_from_32;     /* the same, none a control byte, as in a code */
 text_maker all_from_32;        /* the bytes 32, 33, .., 255, and again: 224 different ones, none a control byte */
 
+/* What they are made of. */
+void seed_random(void);            /* begins with the fixed seed again */
+unsigned random_below(unsigned n); /* from 0 to n - 1 */
+const char *random_bread(void);
+const char *random_good(void);
+
+/* Writes one line of a plan and answers its length; every 16,384th line names each of two rare codes. */
+int plan_line(char *line, size_t room, unsigned long number);
+
 #endif
