@@ -5,7 +5,7 @@ use mathlib.Core.Logic.{_≢_}
 use Prim.Native.Nat.{ℕ, zero, suc, _+_, _*_, _-_, _/_, _%_, _^_, _≤_, _<_, min, max}
 use native.Mathlib.Nat.{mod-lt, mod-self, mul-add-mod-self-right, div-eq-of-lt, div-one, pow-suc}
 use native.Mathlib.Omega.{arith}
-use lib.Dec.{ltb, eqb}
+use lib.Dec.{eqb}
 use lib.Bits.{bitAnd, bitOr, and-step, or-step, and-shr, or-shr}
 use lib.Pow.{pow-pos, pow-mono, pow-lt, high, low, shr-shr, field, mod-mod-pow, shl-exact}
 use borrow.Author.Tests.{eq-eqb, ne-eqb, lt-ltb, le-ltb}

@@ -24,7 +24,8 @@ use Rattle.boards.specs.declared.Watch.{Watch}
 use Rattle.boards.specs.Board.{cut, joined, board-room, some-above, no-board, list-refusal, codes-refusal, accepted, named, begins}
 use Rattle.boards.specs.Feed.{fit}
 use Rattle.boards.specs.Entry.{prepare-refusal, Lent, room, call-refusal, feed-refusal}
-use Rattle.boards.specs.Promise.{Filled, Short, Boardable, Clean, Different, Boards-accepted, Refusals-told, Stands-for, Fit-for, Watches-fit, Spots, Feeding-refused}
+use Rattle.boards.specs.Promise.{Filled, Short, Boardable, Clean, Different, Boards-accepted, Refusals-told}
+use Rattle.boards.specs.Promise.{Stands-for, Fit-for, Watches-fit, Spots, Feeding-refused}
 use Rattle.boards.proofs.Rows.{length-joined}
 use Rattle.boards.proofs.Listing.{Some, empty-some, long-some, none-every, no-codes, many-codes, many-bytes, by-sum}
 use Rattle.boards.proofs.Boards.{sum-lengths, joined-cut}

@@ -7,7 +7,7 @@ use lib.Dec.{ltb, eqb}
 use lib.ListN.{length, take}
 use Rattle.words.specs.Words.{in-front}
 use Rattle.runs.specs.declared.Ending.the-variants.{Refused}
-use Rattle.runs.specs.Reading.{longest-text, Fed, ending, ending-refusal}
+use Rattle.runs.specs.Reading.{longest-text, Fed, ending}
 use Rattle.runs.specs.Calls.{Outcome, run, Call}
 use Rattle.codes.specs.declared.Answer.{Answer}
 use Rattle.codes.specs.Refusals.{refused-if, first-refusal, answered}

@@ -5,7 +5,8 @@ ghost use lib.ListN.{length};
 ghost use Rattle.boards.specs.Board.{cut};
 ghost use Rattle.boards.specs.Tables.{tree, tables};
 ghost use Rattle.boards.specs.Entry.{lent, Feed-says};
-ghost use Rattle.boards.specs.Inside.{On-hits, Writes-hits, On-advance, Advances, Boarded, Ready, Took, On-fit, Told-fit, refusing, On-named, On-lengths-of, Lengths-read};
+ghost use Rattle.boards.specs.Inside.{On-hits, Writes-hits, On-advance, Advances, Boarded, Ready, Took};
+ghost use Rattle.boards.specs.Inside.{On-fit, Told-fit, refusing, On-named, On-lengths-of, Lengths-read};
 use crate::Feeding;
 use crate::MOST_CODES;
 use crate::Watch;
@@ -43,7 +44,8 @@ fn write_hits(
 ) -> usize
     requires { ⌜ On-hits (now lengths) (now shorter) o taken k (length (now places)) (length (now numbers)) ⌝ }
     ensures { λ r. ⌜
-        Writes-hits (now (lengths .entry)) (now (shorter .entry)) o taken k r (now (places .entry)) (now (places .exit)) (now (numbers .entry)) (now (numbers .exit)) ⌝ }
+        Writes-hits (now (lengths .entry)) (now (shorter .entry)) o taken k r (now (places .entry)) (now (places .exit)) (now (numbers .entry))
+        (now (numbers .exit)) ⌝ }
 {
     let mut at = k;
     let mut number = o;

@@ -1,5 +1,4 @@
 -- `build` meets its contract. Assumes nothing.
-use native.Mathlib.Omega.{arith}
 use lib.Dec.{lit≤}
 use borrow.Author.Needs.{needs}
 use Rattle.boards.specs.Tables.{Tree-lists, tree, tables}
