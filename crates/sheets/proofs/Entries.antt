@@ -1,24 +1,25 @@
 -- What preparing answers, by refusal, and what the tests of a buffer tell. Assumes nothing.
 use mathlib.Core.Path.{_≡_, refl, sym, ap, _∙_}
-use mathlib.Core.Bool.{Bool, true, false}
+use mathlib.Core.Bool.{Bool, true, false, _&&_}
 use mathlib.Core.List.{List, [], _∷_}
 use mathlib.Core.Logic.{_≢_, _↔_}
 use Prim.Native.Nat.{ℕ, _+_, _*_, _-_, _≤_, _<_}
 use native.Mathlib.Omega.{arith}
-use lib.Dec.{ltb}
+use lib.Dec.{ltb, leb}
 use lib.ListN.{length, take, drop, length-drop}
 use lib.Seq.{take-append-seam, length-take-le}
-use borrow.Author.Tests.{ne-eqb, lt-ltb, le-ltb}
+use borrow.Author.Tests.{ne-eqb, lt-ltb, le-ltb, le-leb}
 use Rattle.words.specs.Words.{same, in-front}
 use Rattle.words.proofs.Tests.{by-test, by-le, by-eq}
 use Rattle.words.proofs.Lists.{in-front-long}
 use Rattle.codes.specs.declared.Answer.the-variants.{Value, Refused}
 use Rattle.codes.specs.Refusals.{refused-if, first-refusal}
 use Rattle.codes.specs.Codes.{code-refusal, accepted}
-use Rattle.codes.proofs.Refusals.{none-of, first-here, answered-value, answered-refusal, code-bounds, accepted-none, none-accepted}
+use Rattle.codes.specs.Promise.{Answers-told}
+use Rattle.codes.proofs.Refusals.{none-of, first-here, answers-told, answered-value, answered-refusal, code-bounds, accepted-none, none-accepted}
 use Rattle.sheets.specs.Sheet.{number-width, code-start, sheet, sheet-room, longest-sheet, named-length, named, begins}
 use Rattle.sheets.specs.Entry.{prepare-refusal, prepare-answer, prepare-buffer, Prepare-says}
-use Rattle.sheets.specs.Promise.{Room-asked, Prepare-makes}
+use Rattle.sheets.specs.Promise.{Room-asked, Prepare-makes, Preparing-answers}
 use Rattle.sheets.specs.Inside.{Fits-in, Sheet-made, Freshly}
 use Rattle.sheets.proofs.Widths.{start-range, short-target, wide-target, room-is, room-bound}
 use Rattle.sheets.proofs.Sheets.{begins-accepted, begins-bounds, begins-size, begins-long}
@@ -65,6 +66,13 @@ pub prepare-makes : Prepare-makes
 unfolding Prepare-makes prepare-refusal prepare-buffer in-front
 prepare-makes w a none = (none-accepted w (none-of _ none .0), rw none refl)
 
+pub preparing-answers : Preparing-answers
+unfolding Preparing-answers prepare-answer prepare-buffer Answers-told
+preparing-answers w a =
+    let n : ℕ = prepare-refusal w (length a) in
+    let told = answers-told n (length (sheet w)) in
+    (told .0, λ e. told .1 ∙ rw e refl, λ h. rw (ne-eqb n 0 h) refl)
+
 -- so the room asked for decides
 room-decides : (w : List ℕ) (k n : ℕ) → accepted w ≡ true → sheet-room (length w) ≡ n → (prepare-refusal w k ≡ 3) ↔ (k < n)
 unfolding prepare-refusal first-refusal refused-if
@@ -88,10 +96,10 @@ room-asked w k good =
 pub made-long : {w a b : List ℕ} {n : ℕ} → Sheet-made w n a b → n ≤ length b
 made-long {w} {a} m = omega (arith, m .size-is, ap length (m .front), in-front-long (sheet w) a)
 
-pub fresh : {w a area : List ℕ} {n : ℕ} (bs : List ℕ) → Sheet-made w n a area → (r : Bool) → r ≡ same (take n bs) (take n area) → Freshly bs w r
+pub fresh : {w a area : List ℕ} {n : ℕ} (bs : List ℕ) → Sheet-made w n a area → (r : Bool) → r ≡ leb n (length area) && same (take n bs) (take n area) → Freshly bs w r
 unfolding in-front
 fresh {w} {a} {area} {n} bs m r e =
-    e ∙ rw (m .size-is, m .front, take-append-seam (sheet w) (drop (length (sheet w)) a)) refl
+    e ∙ rw (le-leb n (length area) (made-long m), m .size-is, m .front, take-append-seam (sheet w) (drop (length (sheet w)) a)) refl
 
 -- THE CHECK of a buffer, test by test
 module _ (bs : List ℕ) where

@@ -2,14 +2,15 @@
 use mathlib.Core.Path.{_≡_}
 use mathlib.Core.Bool.{true, false, not}
 use mathlib.Core.List.{List, [], _∷_, _++_}
-use mathlib.Core.Logic.{_↔_}
+use mathlib.Core.Logic.{_≢_, _↔_}
 use Prim.Native.Nat.{ℕ, suc, _+_, _*_, _/_, _%_, _≤_, _<_}
 use lib.ListN.{length, drop}
 use Rattle.words.specs.Words.{in-front}
 use Rattle.automaton.specs.Arrows.{all-targets, back-arrows}
+use Rattle.codes.specs.Refusals.{answer-refusal, answer-value}
 use Rattle.codes.specs.Codes.{has-control, accepted}
 use Rattle.sheets.specs.Sheet.{number, numbers, counts-below, layout, sheet, sheet-room, named, begins}
-use Rattle.sheets.specs.Entry.{prepare-refusal, prepare-buffer}
+use Rattle.sheets.specs.Entry.{prepare-refusal, prepare-answer, prepare-buffer}
 
 -- BOTH LAYOUTS. Of a code of up to 255 bytes: its length, the code, the counts and the targets, all in single bytes; of a longer one: a 0 byte, its length in
 -- two bytes, the high byte first, the code, and the counts and the targets in two bytes each
@@ -57,3 +58,11 @@ unfoldable pub Prepare-makes : Type 0
 Prepare-makes =
     (w a : List ℕ) → prepare-refusal w (length a) ≡ 0 →
     (accepted w ≡ true) × (prepare-buffer w a ≡ sheet w ++ drop (length (sheet w)) a)
+
+-- WHAT PREPARING ANSWERS: the refusal's number, and the buffer is as it was; or the sheet's length
+unfoldable pub Preparing-answers : Type 0
+Preparing-answers =
+    (w a : List ℕ) → let n = prepare-refusal w (length a) in let r = prepare-answer w (length a) in
+    (answer-refusal r ≡ n)
+    × (n ≡ 0 → answer-value r ≡ length (sheet w))
+    × (n ≢ 0 → prepare-buffer w a ≡ a)

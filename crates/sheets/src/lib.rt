@@ -2,7 +2,9 @@
 // Preparing follows the rule of Hancart's figure 5, each state's arrows from those of its longest border, and takes a number of steps linear in the code's
 // length. Short and wide sheets differ in the bytes of a number and in the 0 byte before a wide one: what is below exists once for both.
 ghost use mathlib.Core.Path.{_≡_};
+ghost use mathlib.Core.Bool.{_&&_};
 ghost use Prim.Native.Nat.{_+_, _*_, _≤_, _<_};
+ghost use lib.Dec.{leb};
 ghost use lib.ListN.{length, take};
 ghost use lib.Seq.{sets};
 ghost use Rattle.words.specs.Words.{same};
@@ -245,12 +247,14 @@ pub fn prepare(code: &[u8], buffer: &mut [u8]) -> Answer
     Answer::Value(fill(code, 2, buffer) as u64)
 }
 
-// Whether the first n bytes of a and b are the same; a may be shorter. It goes on behind a difference, so that the
-// compiler compares many at a time: with codes of 255 bytes the test of a sheet takes about a quarter less.
-fn same_front(a: &[u8], b: &[u8], n: usize) -> bool
-    requires { ⌜ n ≤ length (now b) ⌝ }
-    ensures { λ r. ⌜ r ≡ same (take n (now (a .entry))) (take n (now (b .entry))) ⌝ }
+// Whether a and b have n bytes and the same ones. It goes on behind a difference, so that the compiler compares many at a
+// time: with codes of 255 bytes the test of a sheet takes about a quarter less.
+pub fn same_front(a: &[u8], b: &[u8], n: usize) -> bool
+    ensures { λ r. ⌜ r ≡ leb n (length (now (b .entry))) && same (take n (now (a .entry))) (take n (now (b .entry))) ⌝ }
 {
+    if b.len() < n {
+        return false;
+    }
     if a.len() < n {
         return false;
     }

@@ -1,5 +1,5 @@
 -- `is_fresh` meets its contract. Assumes nothing.
-use Rattle.sheets.proofs.Entries.{made-long, fresh}
+use Rattle.sheets.proofs.Entries.{fresh}
 use borrow.Author.Needs.{needs}
 use Rattle.sheets.proofs.is_fresh.Statement.{statement}
 use Rattle.sheets.proofs.is_fresh.Tie as tie
@@ -8,7 +8,7 @@ fill-requires : tie.Need-fill-requires
 fill-requires c κs = search needs
 
 same-front-requires : tie.Need-same-front-requires
-same-front-requires c κs = made-long (c .before .before .before .fill .ensures)
+same-front-requires c κs = search needs
 
 same-length : tie.Need-same-length
 same-length c = search needs
