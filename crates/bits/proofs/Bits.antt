@@ -6,10 +6,10 @@ use Prim.Native.Nat.{ℕ, zero, suc, _+_, _*_, _-_, _/_, _%_, _^_, _≤_, _<_, m
 use native.Mathlib.Nat.{mod-lt, mod-self, mul-add-mod-self-right, div-eq-of-lt, div-one, pow-suc}
 use native.Mathlib.Omega.{arith}
 use lib.Dec.{eqb}
-use lib.Bits.{bitAnd, bitOr, and-step, or-step, and-shr, or-shr}
+use lib.Bits.{bitAnd, bitOr, and-step, or-step, and-le-l, and-le-r, or-add-and, and-shr, or-shr}
 use lib.Pow.{pow-pos, pow-mono, pow-lt, high, low, shr-shr, field, mod-mod-pow, shl-exact}
 use borrow.Author.Tests.{eq-eqb, ne-eqb, lt-ltb, le-ltb}
-use Rattle.words.proofs.Tests.{by-le, by-eq, never-both}
+use Rattle.words.proofs.Tests.{by-le, by-eq, never-both, and-left, and-right}
 use Rattle.automaton.specs.Ceilings.{log2}
 use Rattle.automaton.specs.Promise.{Logarithm-right}
 use Rattle.automaton.proofs.Logarithm.{logarithm-right}
@@ -49,6 +49,14 @@ pub holds-or : (a b q : ℕ) → holds (bitOr a b) q ≡ holds a q || holds b q
 unfolding holds
 holds-or a b q = ap (λ (n : ℕ). eqb (n % 2) 1) (or-shr a b q) ∙ bit-or (a / 2 ^ q) (b / 2 ^ q)
 
+-- two words that have no bit together have none
+pub or-zeros : (a b : ℕ) → bitOr a b ≡ 0 → (a ≡ 0) × (b ≡ 0)
+or-zeros a b e =
+    let sum = or-add-and a b in
+    let left = and-le-l a b in
+    let right = and-le-r a b in
+    (omega arith, omega arith)
+
 -- no bit is held at or above one that the word is below
 pub holds-above : (n k q : ℕ) → n < 2 ^ k → k ≤ q → holds n q ≡ false
 unfolding holds
@@ -58,6 +66,23 @@ holds-above n k q h l =
 
 pub holds-zero : (q : ℕ) → holds 0 q ≡ false
 holds-zero q = holds-above 0 0 q (omega arith) (omega arith)
+
+-- the word with all bits holds each
+all-below : (n : ℕ) → (t : ℕ → Bool) → Bool
+all-below zero t = true
+all-below (suc n) t = t n && all-below n t
+
+below-is : (n : ℕ) (t : ℕ → Bool) → all-below n t ≡ true → (q : ℕ) → q < n → t q ≡ true
+unfolding all-below
+below-is zero t e q h = absurd (omega arith)
+below-is (suc n) t e q h =
+    by-eq q n
+    (λ (same : q ≡ n). rw same (and-left (t n) (all-below n t) e))
+    (λ (other : q ≢ n). below-is n t (and-right (t n) (all-below n t) e) q (omega arith))
+
+pub holds-all : (q : ℕ) → q < 64 → holds 18446744073709551615 q ≡ true
+unfolding holds all-below
+holds-all q h = below-is 64 (holds 18446744073709551615) refl q h
 
 -- the bits below k are those of the remainder
 holds-mod : (n k q : ℕ) → q < k → holds (n % 2 ^ k) q ≡ holds n q

@@ -14,7 +14,6 @@ use Rattle.words.proofs.Tests.{by-test, by-le, never-both, fails, and-left, and
 use Rattle.words.proofs.Lists.{every-map}
 use Rattle.automaton.specs.Costs.{sum}
 use Rattle.runs.specs.Reading.{longest-text}
-use Rattle.runs.specs.Calls.{Call}
 use Rattle.codes.specs.Refusals.{refused-if, first-refusal}
 use Rattle.codes.specs.Codes.{longest-code, has-control}
 use Rattle.codes.proofs.Controls.{clean-bytes, bytes-clean}
@@ -145,31 +144,6 @@ refusals-told ls bs k =
       decides-number n 11 (o .4) (decides-then a (decides-then b (decides-then c (decides-then d (decides-fails e))))),
       decides-number n 3 (o .5) (decides-then a (decides-then b (decides-then c (decides-then d (decides-then e (above-test k 32768)))))),
       decides-number n 0 (o .6) (decides-then a (decides-then b (decides-then c (decides-then d (decides-then e (decides-not (below-test k 32768))))))),
-    )
-
--- A CALL'S OWN REFUSALS: 6, then 7, and no other
-own-order : (a b : Bool) →
-    let n = first-refusal (refused-if 6 a ∷ refused-if 7 b ∷ []) in
-    (eqb n 6 ≡ a) × (eqb n 7 ≡ not a && b) × (eqb n 4 ≡ false) × (eqb n 5 ≡ false)
-unfolding first-refusal refused-if
-own-order true b = (refl, refl, refl, refl)
-own-order false true = (refl, refl, refl, refl)
-own-order false false = (refl, refl, refl, refl)
-
-pub call-refusals : (k : ℕ) (c : Call) (n : ℕ) →
-    let r = call-refusal k c n in
-    ((r ≡ 6) ↔ (c .room < k))
-    × ((r ≡ 7) ↔ ((k ≤ c .room) × (4294967295 < n + length (c .piece))))
-    × (r ≢ 4)
-    × (r ≢ 5)
-unfolding call-refusal
-call-refusals k c n =
-    let r : ℕ = call-refusal k c n in
-    let o = own-order (ltb (c .room) k) (ltb longest-text (n + length (c .piece))) in (
-      decides-number r 6 (o .0) (above-test (c .room) k),
-      decides-number r 7 (o .1) (decides-then (below-test (c .room) k) (above-test longest-text (n + length (c .piece)))),
-      eqb-false r 4 (o .2),
-      eqb-false r 5 (o .3),
     )
 
 -- THE CODES, one by one: what every length has, and every byte of all codes

@@ -1,34 +1,35 @@
--- The next bytes of a piece: some that tell nothing, because no code begins at them, and then one byte, or two that begin a code. Assumes nothing.
+-- The next bytes of a piece: some that tell nothing, because no code begins at them, and then one byte, or the first bytes of a code. Assumes nothing.
 use mathlib.Core.Path.{_≡_, refl, sym, ap, _∙_}
-use mathlib.Core.Bool.{Bool, true, false}
+use mathlib.Core.Bool.{true, false}
 use mathlib.Core.Logic.{_≢_}
 use mathlib.Core.List.{List, [], _∷_, _++_}
 use Prim.Native.Nat.{ℕ, zero, suc, _+_, _-_, _≤_, _<_}
-use native.Mathlib.Nat.{add-zero, sub-zero}
+use native.Mathlib.Nat.{le-refl, add-zero, sub-zero}
 use native.Mathlib.Numerals.{add-one}
 use native.Mathlib.Omega.{arith}
-use lib.Dec.{eqb, ltb}
+use lib.Dec.{ltb}
 use lib.ListN.{length, getD, drop}
 use lib.Seq.{drop-cons}
-use borrow.Author.Tests.{ltb-true, eqb-true}
-use Rattle.words.proofs.Tests.{by-eq, fails}
+use borrow.Author.Tests.{ltb-true}
+use Rattle.words.proofs.Tests.{by-eq}
 use Rattle.words.proofs.Lists.{length-snoc}
 use Rattle.runs.specs.Reading.{fed-more}
-use Rattle.runs.proofs.Feeds.{more-more, feed-on}
-use Rattle.starts.specs.Starts.{known, state, start, reached, is-code, index}
+use Rattle.runs.proofs.Feeds.{more-none, more-more, feed-on}
+use Rattle.starts.specs.Starts.{code, known, state, start, reached}
 use Rattle.starts.specs.Hits.{hits-at}
-use Rattle.starts.proofs.States.{known-nil, known-front, state-nil, start-state}
-use Rattle.starts.proofs.Codes.{index-below, code-index}
-use Rattle.starts.proofs.Ends.{reached-known, reached-short, reached-self}
-use Rattle.starts.proofs.Nearest.{nearest-one}
+use Rattle.starts.proofs.States.{state-nil, start-state}
+use Rattle.starts.proofs.Codes.{code-within}
+use Rattle.starts.proofs.Ends.{reached-known, reached-short, reached-nil, reached-self, reached-next, reached-less, reached-tail}
+use Rattle.starts.proofs.Nearest.{nearest-short}
 use Rattle.starts.proofs.Hits.{hits-none}
 use Rattle.boards.specs.declared.Watch.{Watch}
-use Rattle.boards.specs.Pairs.{Pairs, may-begin, Passed, Stopped, On-enter, Enters}
-use Rattle.boards.specs.Tables.{Tree-lists, On-links, Told-links}
+use Rattle.boards.specs.Fronts.{Fronts, common-at, Passed, Stopped, Entering, On-enter, Enters}
+use Rattle.boards.specs.Tables.{part, Tree-lists, On-links, Told-links}
 use Rattle.boards.specs.Feed.{stepped, reported, with-byte, feeder, feed}
 use Rattle.boards.specs.Inside.{Advancing, Advanced}
-use Rattle.boards.proofs.Pairing.{pairs-none, may-none, passed-none}
-use Rattle.boards.proofs.Watching.{stepped-from, feed-pass}
+use Rattle.boards.proofs.Cuts.{part-length}
+use Rattle.boards.proofs.FirstBytes.{part-more, part-first, common-none, passed-none}
+use Rattle.boards.proofs.Watching.{stepped-from}
 
 -- WHAT TELLS NOTHING: the bytes from one index on to another lead from state g to state h and have no hits
 record Silent (ws : List (List ℕ)) (piece : List ℕ) (g i h j : ℕ) : Type 0 where
@@ -48,6 +49,33 @@ module _ {ws : List (List ℕ)} {piece : List ℕ} where
       record {
         onward = omega (arith, a .onward);
         reads = λ x k e l. a .reads x k e l ∙ rw (none (x .taken + (j - i)), sub-zero k, add-zero (x .hits)) refl;
+      }
+
+  -- no byte at all
+  silent-none : (g i : ℕ) → Silent ws piece g i g i
+  silent-none g i =
+      let none : i - i ≡ 0 = omega arith in
+      record {
+        onward = le-refl i;
+        reads = λ x k e l.
+            ap (feed ws (drop i piece) k) (same-watch x g e)
+            ∙ rw (none, add-zero (x .taken)) (sym (more-none (feed ws (drop i piece) k (record { state = g; taken = x .taken; hits = x .hits }))));
+      }
+
+  -- two stretches that end alike: the longer one as far as the shorter one begins
+  silent-until : {g i q m h j : ℕ} → Silent ws piece g i h j → Silent ws piece q m h j → i ≤ m → Silent ws piece g i q m
+  silent-until {g} {i} {q} {m} {h} {j} a b l =
+      let sum : m - i + (j - m) ≡ j - i = omega (arith, a .onward, b .onward) in
+      record {
+        onward = l;
+        reads = λ x k e r.
+            let at : x .taken + (m - i) + (j - m) ≡ x .taken + (j - i) = omega (arith, sum) in
+            let y : Watch = record { state = q; taken = x .taken + (m - i); hits = x .hits } in
+            let z : Watch = record { state = h; taken = y .taken + (j - m); hits = x .hits } in
+            a .reads x k e r
+            ∙ sym
+            (ap (fed-more (m - i) []) (b .reads y k refl r) ∙ more-more (m - i) (j - m) [] [] (feed ws (drop j piece) k z)
+            ∙ rw (sum, at) refl);
       }
 
   -- before other bytes
@@ -91,105 +119,134 @@ module _ {ws : List (List ℕ)} {piece : List ℕ} where
             rw (drop-cons piece i 0 inside, one, add-one i, add-one (x .taken), ← to) (feed-on (feeder ws) c (drop (suc i) piece) n x l);
       }
 
-  -- TWO BYTES that begin a code, from state 0, where the first alone is none
-  read-two : (u : List ℕ) (i h : ℕ) → i + 1 < length piece → is-code ws [] ≡ false → is-code ws (getD piece i 0 ∷ []) ≡ false →
-      let v = getD piece i 0 ∷ getD piece (i + 1) 0 ∷ [] in known ws v ≡ true → h ≡ state ws v → Advanced ws u piece 0 i h (i + 2)
-  read-two u i h inside empty one k e =
-      let a : ℕ = getD piece i 0 in
-      let b : ℕ = getD piece (i + 1) 0 in
-      let known-one : known ws (a ∷ []) ≡ true = known-front ws (a ∷ []) b k in
-      let at : start ws (state ws (a ∷ [])) ≡ a ∷ [] = start-state ws (a ∷ []) known-one in
-      let two : i + 1 + 1 ≡ i + 2 = omega arith in
-      silent-then
-      (silent-read (read-byte [] 0 i (state ws (a ∷ [])) (known-nil ws) (state-nil ws) (omega arith) (ap (state ws) (sym (reached-self ws (a ∷ []) known-one))))
-      (λ n. rw at (hits-none ws n (a ∷ []) (nearest-one ws (a ∷ []) (omega arith) one empty))))
-      (omega arith)
-      (rw two at (read-byte (a ∷ []) (state ws (a ∷ [])) (i + 1) h known-one refl inside (e ∙ ap (state ws) (sym (reached-self ws (a ∷ b ∷ []) k)))))
+-- THE FIRST BYTES from an index on, from state 0, of codes that all have as many
+module _ (ws : List (List ℕ)) (piece : List ℕ) (depth : ℕ) (within : (j : ℕ) → j < length ws → depth ≤ length (code ws j)) where
+  abbrev after : (i n : ℕ) → List ℕ
+  after i n = reached ws (part i n piece)
+
+  after-short : (i n : ℕ) → i + n ≤ length piece → length (after i n) ≤ n
+  after-short i n h = omega (arith, reached-short ws (part i n piece), part-length i n piece h)
+
+  -- one more byte, behind some that tell nothing
+  read-after : (u : List ℕ) (i n : ℕ) → i + n < length piece → Silent ws piece 0 i (state ws (after i n)) (i + n) →
+      Advanced ws u piece 0 i (state ws (after i (suc n))) (i + n + 1)
+  read-after u i n h s =
+      silent-then s (omega (arith, after-short i n (omega arith)))
+      (read-byte (after i n) (state ws (after i n)) (i + n) (state ws (after i (suc n))) (reached-known ws (part i n piece)) refl h
+      (ap (state ws) (ap (reached ws) (part-more i n piece h) ∙ reached-next ws (part i n piece) (getD piece (i + n) 0))))
+
+  -- it tells nothing either, if the start that it leads to is shorter than the codes
+  silent-after : (i n : ℕ) → i + n < length piece → length (after i (suc n)) < depth → Silent ws piece 0 i (state ws (after i n)) (i + n) →
+      Silent ws piece 0 i (state ws (after i (suc n))) (i + suc n)
+  silent-after i n h l s =
+      let on : i + n + 1 ≡ i + suc n = omega arith in
+      rw on at
+      (silent-read (read-after [] i n h s)
+      (λ t.
+      rw (start-state ws (after i (suc n)) (reached-known ws (part i (suc n) piece)))
+      (hits-none ws t (after i (suc n)) (nearest-short ws depth (code-within ws depth within) (after i (suc n)) l))))
+
+  silent-front : (i n : ℕ) → i + n ≤ length piece → n < depth → Silent ws piece 0 i (state ws (after i n)) (i + n)
+  unfolding part
+  silent-front i zero h l = rw (add-zero i, reached-nil ws, state-nil ws) (silent-none 0 i)
+  silent-front i (suc n) h l =
+      silent-after i n (omega arith) (omega (arith, after-short i (suc n) h)) (silent-front i n (omega arith) (omega arith))
+
+  module _ (some : 1 ≤ depth) where
+    abbrev less : ℕ
+    less = depth - 1
+
+    one-more : suc less ≡ depth
+    one-more = omega arith
+
+    -- a code's first bytes lead to their state
+    read-front : (u : List ℕ) (i h : ℕ) → i + depth ≤ length piece → known ws (part i depth piece) ≡ true → h ≡ state ws (part i depth piece) →
+        Advanced ws u piece 0 i h (i + depth)
+    read-front u i h inside k e =
+        let on : i + less + 1 ≡ i + depth = omega arith in
+        let to : state ws (after i (suc less)) ≡ h =
+        ap (λ (n : ℕ). state ws (after i n)) one-more ∙ ap (state ws) (reached-self ws (part i depth piece) k) ∙ sym e in
+        rw (on, to) at (read-after u i less (omega arith) (silent-front i less (omega arith) (omega arith)))
+
+    -- where no code begins, the first of them is as good as not read
+    silent-one : (i : ℕ) → i + depth ≤ length piece → known ws (part i depth piece) ≡ false → Silent ws piece 0 i 0 (i + 1)
+    silent-one i inside none =
+        let first : part i depth piece ≡ getD piece i 0 ∷ part (i + 1) less piece =
+        ap (λ (n : ℕ). part i n piece) (sym one-more) ∙ part-first i less piece (omega arith) in
+        let behind : i + 1 + less ≡ i + depth = omega arith in
+        let same : after i depth ≡ after (i + 1) less =
+        ap (reached ws) first ∙ reached-tail ws (getD piece i 0) (part (i + 1) less piece) (sym (ap (known ws) first) ∙ none) in
+        let long : length (part i depth piece) ≡ depth = part-length i depth piece inside in
+        let short : length (after i depth) < depth = omega (arith, reached-less ws (part i depth piece) none (omega arith)) in
+        silent-until
+        (rw one-more at (silent-after i less (omega arith) (rw one-more short) (silent-front i less (omega arith) (omega arith))))
+        (rw (behind, ← same) at (silent-front (i + 1) less (omega arith) (omega arith)))
+        (omega arith)
 
 -- A STRETCH in state 0 at which no code begins
-module _ {ws : List (List ℕ)} {first second starts : List ℕ} {longer : Bool} (p : Pairs ws first second starts longer) (piece : List ℕ)
+module _ {ws : List (List ℕ)} {words starts : List ℕ} {depth : ℕ} (f : Fronts ws depth words starts) (piece : List ℕ)
     (small : (i : ℕ) → i < length piece → getD piece i 0 < 256) where
-  silent-one : (i : ℕ) → i + 1 < length piece → may-begin first second piece i ≡ false → Silent ws piece 0 i 0 (i + 1)
-  silent-one i h e =
-      let a : ℕ = getD piece i 0 in
-      let b : ℕ = getD piece (i + 1) 0 in
-      let none = pairs-none p a b (small i (omega arith)) (small (i + 1) h) (may-none first second piece i e) in
-      let one : i + 1 - i ≡ 1 = omega arith in
-      record {
-        onward = omega arith;
-        reads = λ x k f l.
-            rw (same-watch x 0 f, drop-cons piece i 0 (omega arith), ← add-one i, drop-cons piece (i + 1) 0 h, one, add-one (x .taken))
-            (feed-pass ws (p .filled) a (none .1) (x .taken) (x .hits) b (none .0) (drop (suc (i + 1)) piece) k l);
-      }
-
-  stretch-then : (d i j : ℕ) {u : List ℕ} {h m : ℕ} → j ≡ i + d → Passed first second piece i j → Advanced ws u piece 0 j h m → Advanced ws u piece 0 i h m
+  stretch-then : (d i j : ℕ) {u : List ℕ} {h m : ℕ} → j ≡ i + d → Passed words piece i j → Advanced ws u piece 0 j h m → Advanced ws u piece 0 i h m
   stretch-then zero i j e q a = let at : j ≡ i = omega arith in rw at at a
   stretch-then (suc d) i j e q a =
-      silent-then (silent-one i (omega (arith, q .inside)) (q .none i (omega arith) (omega arith))) (omega arith)
+      let none = q .none i (omega arith) (omega arith) in
+      silent-then
+      (silent-one ws piece depth (f .within) (f .some) i (omega (arith, f .most, none .0)) (common-none f piece i (none .0) small (none .1))) (omega arith)
       (stretch-then d (i + 1) j (omega arith)
       (record { onward = omega arith; inside = q .inside; none = λ k lo hi. q .none k (omega arith) hi }) a)
 
--- WHERE THE NEXT BYTES ARE: at i or, from state 0, at the first index where a code can begin
-pub record At (first second piece : List ℕ) (g i p : ℕ) : Type 0 where
-  passed : Passed first second piece i p
+-- WHERE THE NEXT BYTES ARE: at i or, from state 0, at the first index where a code begins
+pub record At (words piece : List ℕ) (g i p : ℕ) : Type 0 where
+  passed : Passed words piece i p
   moved : i ≢ p → g ≡ 0
-  stops : g ≡ 0 → p + 1 < length piece → may-begin first second piece p ≡ true
+  stops : g ≡ 0 → p + 3 < length piece → common-at words piece p ≢ 0
 
-module _ {first second piece : List ℕ} {g i p : ℕ} where
-  pub at-here : g ≢ 0 → i < length piece → p ≡ i → At first second piece g i p
+module _ {words piece : List ℕ} {g i p : ℕ} where
+  pub at-here : g ≢ 0 → i < length piece → p ≡ i → At words piece g i p
   at-here d h e =
-      rw e (record { passed = passed-none first second piece i h; moved = λ n. absurd (n refl); stops = λ z. absurd (d z) })
+      rw e (record { passed = passed-none words piece i h; moved = λ n. absurd (n refl); stops = λ z. absurd (d z) })
 
-  pub at-stop : {r : ℕ} → g ≡ 0 → Stopped first second piece i r → p ≡ r → At first second piece g i p
+  pub at-stop : {r : ℕ} → g ≡ 0 → Stopped words piece i r → p ≡ r → At words piece g i p
   at-stop e s q = rw q (record { passed = s .passed; moved = λ _. e; stops = λ _. s .stops })
 
-  pub at-inside : At first second piece g i p → p < length piece
+  pub at-inside : At words piece g i p → p < length piece
   at-inside a = a .passed .inside
 
-module _ {ws : List (List ℕ)} {u : List ℕ} {t : Tree-lists} {links first second starts : List ℕ} {longer : Bool} {g : ℕ} {piece : List ℕ} {i : ℕ}
-    (v : Advancing ws u t links first second starts longer g piece i) where
+module _ {ws : List (List ℕ)} {u : List ℕ} {t : Tree-lists} {links words starts : List ℕ} {depth g : ℕ} {piece : List ℕ} {i : ℕ}
+    (v : Advancing ws u t links words starts depth g piece i) where
   -- A STEP by one byte: what it needs, and where it leads from there
   pub step-needs : On-links t links g
   step-needs =
       record { ws = ws; u = u; is-tree = v .is-tree; known-is = v .known-is; state-is = v .state-is; linked = v .linked (length u) }
 
-  module _ {p : ℕ} (a : At first second piece g i p) where
+  module _ {p : ℕ} (a : At words piece g i p) where
     at-then : {w : List ℕ} {h m : ℕ} → Advanced ws w piece g p h m → Advanced ws w piece g i h m
     at-then b =
         by-eq i p (λ (e : i ≡ p). rw e b)
         (λ (d : i ≢ p).
         let e = a .moved d in
-        rw e (stretch-then (v .pairs) piece (v .bytes) (p - i) i p (omega (arith, a .passed .onward)) (a .passed) (rw e at b)))
+        rw e (stretch-then (v .fronts) piece (v .bytes) (p - i) i p (omega (arith, a .passed .onward)) (a .passed) (rw e at b)))
 
     pub by-step : {h : ℕ} → Told-links t links g (λ vs w. h ≡ state vs (reached vs (w ++ (getD piece p 0 ∷ [])))) → Advanced ws u piece g i h (p + 1)
     by-step {h} told =
         at-then
         (read-byte u g p h (v .known-is) (v .state-is) (a .passed .inside) (told ws u (v .is-tree) (v .known-is) (v .state-is) (v .linked (length u))))
 
-    -- ENTERING a code by two bytes, where none has one byte only
-    module _ (all : longer ≡ true) (rest-test : eqb g 0 ≡ true) (inside-test : ltb (p + 1) (length piece) ≡ true) where
-      rest : g ≡ 0
-      rest = eqb-true g 0 rest-test
+    -- ENTERING a code by its first bytes
+    module _ (rest : g ≡ 0) (inside-test : ltb (p + 3) (length piece) ≡ true) where
+      inside : p + 3 < length piece
+      inside = ltb-true (p + 3) (length piece) inside-test
 
-      inside : p + 1 < length piece
-      inside = ltb-true (p + 1) (length piece) inside-test
+      entering : Entering ws words starts depth piece p
+      entering = record { fronts = v .fronts; inside = inside; bytes = v .bytes; begins = a .stops rest inside }
 
-      pub enter-needs : On-enter first second starts piece p
-      enter-needs =
-          record {
-            ws = ws;
-            pairs = rw all at (v .pairs);
-            inside = inside;
-            bytes = (v .bytes p (omega arith), v .bytes (p + 1) inside);
-            may = a .stops rest inside;
-          }
+      pub enter-needs : On-enter words starts depth piece p
+      enter-needs = record { ws = ws; entering = entering }
 
-      none-single : (c : ℕ) → is-code ws (c ∷ []) ≡ false
-      none-single c =
-          fails (is-code ws (c ∷ []))
-          (λ k. omega (arith, v .pairs .all-longer all (index ws (c ∷ [])) (index-below ws (c ∷ []) k), ap length (code-index ws (c ∷ []) k)))
+      enter-bound : p + depth ≤ length piece
+      enter-bound = omega (arith, inside, v .fronts .most)
 
-      pub by-enter : {h : ℕ} → Enters first second starts piece p h → Advanced ws u piece g i h (p + 2)
+      pub by-enter : {h : ℕ} → Enters words starts depth piece p h → Advanced ws u piece g i h (p + depth)
       by-enter {h} told =
-          let to = told ws (rw all at (v .pairs)) in
-          at-then (rw rest (read-two u p h inside (v .pairs .filled) (none-single (getD piece p 0)) (to .0) (to .1)))
+          let to = told ws entering in
+          at-then (rw rest (read-front ws piece depth (v .fronts .within) (v .fronts .some) u p h enter-bound (to .0) (to .1)))

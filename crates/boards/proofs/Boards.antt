@@ -7,7 +7,7 @@ use native.Mathlib.Omega.{arith}
 use lib.Dec.{eqb}
 use lib.ListN.{length, take, drop, length-append, length-drop, length-map, take-append-drop}
 use lib.Seq.{take-all, take-append-le, drop-append-le, take-at, drop-at, take-append-seam, drop-append-seam, drop-append-add}
-use borrow.Author.Tests.{eqb-true, eq-eqb}
+use borrow.Author.Tests.{eqb-true, eq-eqb, ne-eqb}
 use Rattle.words.specs.Words.{same, in-front}
 use Rattle.words.proofs.Tests.{by-le, and-left, and-right}
 use Rattle.words.proofs.Lists.{eq-same, same-eq}
@@ -18,10 +18,11 @@ use Rattle.sheets.proofs.Layouts.{length-numbers}
 use Rattle.boards.specs.Board.{cut, joined, codes-refusal, accepted, link, nearest-at, row, rows-below, header, board}
 use Rattle.boards.specs.Board.{pairs-of, named-lengths, named-bytes, named, begins}
 use Rattle.boards.specs.Tables.{Good}
-use Rattle.boards.specs.Entry.{prepare-refusal, prepare-buffer}
-use Rattle.boards.specs.Promise.{Board-laid, Board-sized, Board-tells, Begins-right, Prepare-makes}
-use Rattle.codes.proofs.Refusals.{none-of}
-use Rattle.boards.proofs.Cuts.{cut-lengths, cut-joined}
+use Rattle.boards.specs.Entry.{prepare-refusal, prepare-answer, prepare-buffer}
+use Rattle.boards.specs.Promise.{Board-laid, Board-sized, Board-tells, Begins-right, Prepare-makes, Preparing-answers}
+use Rattle.codes.specs.Promise.{Answers-told}
+use Rattle.codes.proofs.Refusals.{none-of, answers-told}
+use Rattle.boards.proofs.Cuts.{cut-length, cut-total, cut-lengths, cut-joined}
 use Rattle.boards.proofs.Rows.{length-joined, length-rows, board-length}
 use Rattle.boards.proofs.Splices.{row-long}
 use Rattle.boards.proofs.Listing.{good-of, none-listed}
@@ -176,3 +177,22 @@ board-tells ws vs xs ys e = sym (board-named ws xs) ∙ ap named e ∙ board-nam
 pub prepare-makes : Prepare-makes
 unfolding Prepare-makes prepare-refusal prepare-buffer in-front
 prepare-makes ls bs a none = (accepted-cut ls bs (none-of _ none .0), rw none refl)
+
+prepare-sums : (ls bs : List ℕ) (k : ℕ) → prepare-refusal ls bs k ≡ 0 → sum ls ≡ length bs
+unfolding prepare-refusal
+prepare-sums ls bs k e = good-of ls bs (none-listed ls bs (none-of _ e .0) .0) .sums
+
+prepare-length : (ls bs : List ℕ) → sum ls ≡ length bs → length (board (cut ls bs)) ≡ 4 + 3 * length ls + 4 * length bs
+prepare-length ls bs s = omega (arith, board-length (cut ls bs), cut-length ls bs, cut-total ls bs (omega (arith, s)), s)
+
+pub preparing-answers : Preparing-answers
+unfolding Preparing-answers prepare-answer prepare-buffer Answers-told
+preparing-answers ls bs a =
+    let n : ℕ = prepare-refusal ls bs (length a) in
+    let v : ℕ = length (board (cut ls bs)) in (
+      answers-told n v .0,
+      λ e.
+          let s : sum ls ≡ length bs = prepare-sums ls bs (length a) e in
+          (answers-told n v .1 ∙ rw e (prepare-length ls bs s), cut-lengths ls bs (omega (arith, s)), cut-joined ls bs s),
+      λ h. rw (ne-eqb n 0 h) refl,
+    )

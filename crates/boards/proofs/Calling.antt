@@ -1,16 +1,17 @@
 -- A call of feeding by what it finds: the codes that a buffer names, whether it begins with their board, and the refusals in their order. Assumes nothing.
 use mathlib.Core.Path.{_≡_, refl, sym, ap, _∙_}
-use mathlib.Core.Bool.{Bool, true, false}
+use mathlib.Core.Bool.{Bool, true, false, _&&_}
 use mathlib.Core.List.{List, [], _∷_}
 use mathlib.Core.Logic.{_≢_}
 use Prim.Native.Nat.{ℕ, zero, suc, _+_, _*_, _-_, _≤_, _<_, min}
 use native.Mathlib.Omega.{arith}
-use lib.Dec.{eqb}
+use lib.Dec.{leb, eqb}
 use lib.ListN.{length, getD, take, drop, length-take, length-drop}
 use lib.Seq.{take-append-seam}
-use borrow.Author.Tests.{eqb-true, lt-ltb, le-ltb}
+use borrow.Author.Tests.{eqb-true, lt-ltb, le-ltb, le-leb}
 use Rattle.words.specs.Words.{Every, same, in-front}
 use Rattle.words.proofs.Tests.{never-both, fails, and-left}
+use Rattle.words.proofs.Lists.{in-front-long}
 use Rattle.automaton.specs.Costs.{sum}
 use Rattle.runs.specs.Reading.{longest-text}
 use Rattle.codes.specs.Refusals.{refused-if, first-refusal}
@@ -120,13 +121,14 @@ module _ {buffer ls bs : List ℕ} (o : On-named buffer ls bs) where
 
   -- it begins with their board where it is the same as the one that is written in front of an area
   pub begins-as : {size : ℕ} {a area : List ℕ} {r : Bool} → twice (cut ls bs) ≡ false → Board-made (cut ls bs) size a area →
-      r ≡ same (take size buffer) (take size area) → r ≡ begins buffer
+      r ≡ leb size (length area) && same (take size buffer) (take size area) → r ≡ begins buffer
   unfolding begins in-front
   begins-as {size} {a} {area} once m e =
       let none : codes-refusal (named-lengths buffer) (named-bytes buffer) ≡ 0 =
       rw (← o .lengths-are, ← o .bytes-are) (codes-none ls bs (o .listed) once) in
       let w : List ℕ = board (named buffer) in
-      e ∙ rw (none, m .front, m .size-is, codes-named, take-append-seam w (drop (length w) a)) refl
+      let room : size ≤ length area = omega (arith, m .size-is, ap length (m .front), in-front-long (board (cut ls bs)) a) in
+      e ∙ rw (le-leb size (length area) room, none, m .front, m .size-is, codes-named, take-append-seam w (drop (length w) a)) refl
 
   -- THE OTHER REFUSALS, each after those before it passed, and a call without one
   module _ (b : begins buffer ≡ true) (x : Watch) (l : Lent) (r : Feeding) where

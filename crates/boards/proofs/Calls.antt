@@ -52,11 +52,11 @@ read-by zero z ws x l =
     let told : List Hit = feed ws (l .piece) (room l) x .told in
     let fits = room-fits l (length told) (told-room (feeder ws) (reported-few ws) (l .piece) (room l) x) in (
       refl,
-      rw (front-back (λ (h : Hit). h .place) told (l .places), front-back (λ (h : Hit). h .code) told (l .numbers)) (paired-back told),
+      rw (front-back (λ (h : Hit). h .place) told (l .places), front-back (λ (h : Hit). h .number) told (l .numbers)) (paired-back told),
       front-behind (λ (h : Hit). h .place) told (l .places),
-      front-behind (λ (h : Hit). h .code) told (l .numbers),
+      front-behind (λ (h : Hit). h .number) told (l .numbers),
       front-length (λ (h : Hit). h .place) told (l .places) (fits .0),
-      front-length (λ (h : Hit). h .code) told (l .numbers) (fits .1),
+      front-length (λ (h : Hit). h .number) told (l .numbers) (fits .1),
       refl,
     )
 read-by (suc n) z ws x l = absurd (omega (arith, z))

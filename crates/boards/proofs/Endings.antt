@@ -1,31 +1,28 @@
 -- What an answer's ending says, that feeding goes on, and where number 4 comes up. Assumes nothing.
 use mathlib.Core.Path.{_≡_, refl, sym, ap, _∙_}
-use mathlib.Core.Bool.{true, false}
+use mathlib.Core.Bool.{false}
 use mathlib.Core.List.{List, [], _++_}
-use mathlib.Core.Logic.{_≢_}
 use Prim.Native.Nat.{ℕ, zero, suc, _+_, _≤_, _<_, min}
 use native.Mathlib.Omega.{arith}
 use borrow.Author.Tests.{ltb-false}
 use lib.Dec.{ltb}
 use lib.ListN.{length, take, drop}
 use Rattle.words.specs.Words.{in-front}
-use Rattle.words.proofs.Tests.{by-test, fails, never-both}
+use Rattle.words.proofs.Tests.{fails, never-both}
 use Rattle.runs.specs.declared.Ending.the-variants.{PieceDone}
 use Rattle.runs.specs.Reading.{Fed, fed, ending-refusal, ending-full}
 use Rattle.runs.proofs.Feeds.{feed-end, takes-some, spots-before, told-room, ending-none, ending-done, full-says, done-says}
-use Rattle.codes.specs.Refusals.{refused-if, first-refusal}
 use Rattle.codes.proofs.Refusals.{none-of, not-refused}
 use Rattle.starts.specs.Hits.{Hit}
 use Rattle.boards.specs.declared.Watch.{Watch}
 use Rattle.boards.specs.Board.{board, named, begins}
-use Rattle.boards.specs.Feed.{fit, feeder, feed}
-use Rattle.boards.specs.Entry.{Lent, room, plain, call-refusal, feed-refusal, fed-call, call-by, feed-call}
-use Rattle.boards.specs.Promise.{Boards-told}
+use Rattle.boards.specs.Feed.{feeder, feed}
+use Rattle.boards.specs.Entry.{Lent, room, call-refusal, feed-refusal, fed-call, call-by, feed-call}
+use Rattle.boards.specs.Promise.{Boards-told, Feeding-refused}
 use Rattle.boards.specs.Runs.{Endings-told, Stops-in-time, Behind-unread, Feeding-goes-on}
 use Rattle.boards.proofs.Boards.{board-named, board-begins, begins-accepted, begins-front}
-use Rattle.boards.proofs.Accepting.{call-refusals}
+use Rattle.boards.proofs.Accepting.{feeding-refused}
 use Rattle.boards.proofs.Watching.{reported-few}
-use Rattle.boards.proofs.Running.{own-refusal}
 
 -- THE ENDING by the refusal
 endings-by : (n : ℕ) (ws : List (List ℕ)) (x : Watch) (l : Lent) → let r = call-by n ws x l .answer in
@@ -52,30 +49,16 @@ endings-told bs x l = endings-by (feed-refusal bs x l) (named bs) x l
 
 -- NUMBER 4
 module _ (bs : List ℕ) (x : Watch) (l : Lent) where
-  refuses-4 : begins bs ≡ false → feed-refusal bs x l ≡ 4
-  unfolding feed-refusal first-refusal refused-if
-  refuses-4 b = rw b
-
-  refuses-5 : begins bs ≡ true → fit (named bs) x ≡ false → feed-refusal bs x l ≡ 5
-  unfolding feed-refusal first-refusal refused-if
-  refuses-5 b f = rw (b, f)
-
-  never-4 : begins bs ≡ true → feed-refusal bs x l ≢ 4
-  never-4 b e =
-      by-test (fit (named bs) x)
-      (λ f. call-refusals (length (named bs)) (plain l) (x .taken) .2 (sym (own-refusal bs x l b f) ∙ e))
-      (λ f. omega (arith, refuses-5 b f, e))
-
   abbrev number : ℕ
   number = ending-refusal (feed-call bs x l .answer .ending)
 
   four-not-board : number ≡ 4 → begins bs ≡ false
-  unfolding Endings-told
-  four-not-board e = fails (begins bs) (λ b. never-4 b (sym (endings-told bs x l .1) ∙ e))
+  unfolding Endings-told Feeding-refused
+  four-not-board e = feeding-refused bs x l .0 .0 (sym (endings-told bs x l .1) ∙ e)
 
   not-board-four : begins bs ≡ false → number ≡ 4
-  unfolding Endings-told
-  not-board-four b = endings-told bs x l .1 ∙ refuses-4 b
+  unfolding Endings-told Feeding-refused
+  not-board-four b = endings-told bs x l .1 ∙ feeding-refused bs x l .0 .1 b
 
 pub boards-told : Boards-told
 unfolding Boards-told in-front

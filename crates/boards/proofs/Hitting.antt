@@ -50,7 +50,7 @@ pub record Hit-loop (ws : List (List ℕ)) (u : List ℕ) (taken k : ℕ) (a b p
   pub whole : hits-at ws u taken ≡ done ++ chain ws taken o
   pub at-is : at ≡ k + length done
   pub places-are : Spliced k (map (λ (h : Hit). h .place) done) a b
-  pub numbers-are : Spliced k (map (λ (h : Hit). h .code) done) p q
+  pub numbers-are : Spliced k (map (λ (h : Hit). h .number) done) p q
   pub names : Names ws taken o
 
 module _ {ws : List (List ℕ)} {u ls short : List ℕ} {o taken k : ℕ} {a p : List ℕ} (g : Hitting ws u ls short o taken k (length a) (length p)) where
@@ -107,8 +107,8 @@ module _ {ws : List (List ℕ)} {u ls short : List ℕ} {o taken k : ℕ} {a p :
                 (spliced-more (one .place ∷ []) at (t .places-are) (omega (arith, t .at-is, length-map (t .done) (λ (h : Hit). h .place)))
                 (omega (arith, hits-bounds .3, t .places-are .long)));
             numbers-are =
-                rw (map-app (λ (h : Hit). h .code) (t .done) (one ∷ []))
-                (spliced-more (one .code ∷ []) at (t .numbers-are) (omega (arith, t .at-is, length-map (t .done) (λ (h : Hit). h .code)))
+                rw (map-app (λ (h : Hit). h .number) (t .done) (one ∷ []))
+                (spliced-more (one .number ∷ []) at (t .numbers-are) (omega (arith, t .at-is, length-map (t .done) (λ (h : Hit). h .number)))
                 (omega (arith, hits-bounds .4, t .numbers-are .long)));
             names = rw short-is (names-end ws (length w - 1) taken w (omega arith) (omega (arith, t .names .1 j e)));
           }

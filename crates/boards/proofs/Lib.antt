@@ -16,7 +16,7 @@ pub mod Fitness
 pub mod Listing
 pub mod NamedLengths
 pub mod Prepared
-pub mod Pairing
+pub mod FirstBytes
 pub mod Calling
 pub mod Advancing
 pub mod Boards

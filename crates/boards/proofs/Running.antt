@@ -1,7 +1,7 @@
 -- THE RUN of a board's feeding calls: on the board of accepted codes, with the watch of a text, only 6 and 7 refuse, and each call reads on; so what was told
 -- is what separate searches find in the bytes taken. Assumes nothing.
 use mathlib.Core.Path.{_≡_, refl, sym, ap, _∙_}
-use mathlib.Core.Bool.{true, false}
+use mathlib.Core.Bool.{true}
 use mathlib.Core.List.{List, [], _∷_, _++_, map}
 use Prim.Native.Nat.{ℕ, zero, suc, _<_}
 use native.Mathlib.Omega.{arith}
@@ -9,7 +9,7 @@ use lib.Dec.{eqb·suc-zero}
 use lib.ListN.{length, take, drop, length-map}
 use lib.Seq.{take-at}
 use Rattle.words.specs.Words.{in-front}
-use Rattle.words.proofs.Tests.{fails}
+use Rattle.words.proofs.Tests.{never-both}
 use Rattle.runs.specs.Reading.{over, Fed}
 use Rattle.runs.specs.Calls.{Outcome, run, unless-refused, called}
 use Rattle.runs.proofs.Runs.{run-snoc}
@@ -18,10 +18,10 @@ use Rattle.codes.specs.Refusals.{refused-if, first-refusal}
 use Rattle.codes.specs.Codes as codes
 use Rattle.codes.specs.Promise.{Codes-accepted}
 use Rattle.codes.proofs.Refusals.{codes-accepted}
-use Rattle.starts.specs.Starts.{code, is-code, index}
+use Rattle.starts.specs.Starts.{code}
 use Rattle.starts.specs.Hits.{Hit, hits-after, hits, places-of}
 use Rattle.starts.proofs.States.{state-nil}
-use Rattle.starts.proofs.Codes.{index-below, code-index}
+use Rattle.starts.proofs.Codes.{none-empty}
 use Rattle.starts.proofs.Ends.{reached-nil}
 use Rattle.starts.proofs.Hits.{every-hit-map, hits-coded, hits-ordered}
 use Rattle.starts.proofs.Separate.{separate}
@@ -35,14 +35,14 @@ use Rattle.boards.specs.declared.Watch.{Watch}
 use Rattle.boards.specs.Board.{cut, accepted, board, named, begins}
 use Rattle.boards.specs.Feed.{opened, fit, feeder, feed, watch-of}
 use Rattle.boards.specs.Entry.{Lent, room, plain, Feed-call, call-refusal, feed-refusal, call-by, feed-call, paired, told-hits, feeding, feed-run}
-use Rattle.boards.specs.Promise.{Boards-accepted, Prepare-makes}
-use Rattle.boards.specs.Runs.{Entries-find, Prepared-find, Same-as-separate, Only-own-refusals, Entries-alike, Runs-grow}
+use Rattle.boards.specs.Promise.{Boards-accepted, Prepare-makes, Watches-fit, Feeding-refused}
+use Rattle.boards.specs.Runs.{Entries-find, Prepared-find, Same-as-separate, Refuses-only, Entries-alike, Runs-grow}
 use Rattle.boards.proofs.Boards.{accepted-good, board-named, board-begins, prepare-makes}
-use Rattle.boards.proofs.Accepting.{call-refusals, boards-accepted, accepted-once}
+use Rattle.boards.proofs.Accepting.{boards-accepted, accepted-once, watches-fit, feeding-refused}
 use Rattle.boards.proofs.Watching.{reports-text, follows-text, fit-text}
 
 -- TWO LISTS, pair by pair, are the hits whose places and numbers they are
-pub paired-back : (hs : List Hit) → paired (map (λ (h : Hit). h .place) hs) (map (λ (h : Hit). h .code) hs) ≡ hs
+pub paired-back : (hs : List Hit) → paired (map (λ (h : Hit). h .place) hs) (map (λ (h : Hit). h .number) hs) ≡ hs
 unfolding paired
 paired-back [] = refl
 paired-back (h ∷ hs) = ap (λ (l : List Hit). h ∷ l) (paired-back hs)
@@ -64,7 +64,7 @@ as-fed zero ws x l =
     record {
       watch = refl;
       taken = refl;
-      told = rw (front-back (λ (h : Hit). h .place) (f .told) (l .places), front-back (λ (h : Hit). h .code) (f .told) (l .numbers)) (paired-back (f .told));
+      told = rw (front-back (λ (h : Hit). h .place) (f .told) (l .places), front-back (λ (h : Hit). h .number) (f .told) (l .numbers)) (paired-back (f .told));
     }
 as-fed (suc n) ws x l = simp eqb·suc-zero (record { watch = refl; taken = refl; told = unfold paired in refl })
 
@@ -140,20 +140,33 @@ module _ (ws : List (List ℕ)) (rest : List ℕ) (good : accepted ws ≡ true) 
 
 -- A SEPARATE SEARCH for one of accepted codes
 module _ (ws : List (List ℕ)) (good : accepted ws ≡ true) where
-  none-empty : is-code ws [] ≡ false
-  unfolding Boards-accepted
-  none-empty =
-      fails (is-code ws [])
-      (λ e. omega (arith, boards-accepted ws .0 good .3 (index ws []) (index-below ws [] e) .0, ap length (code-index ws [] e)))
-
   apart : (j : ℕ) → j < length ws → (ts : List ℕ) → places-of (suc j) (hits ws ts) ≡ places (code ws j) ts
-  unfolding found-after
-  apart j h ts = separate ws (accepted-once ws good) none-empty j h ts
+  unfolding Boards-accepted found-after
+  apart j h ts = separate ws (accepted-once ws good) (none-empty ws (λ i l. boards-accepted ws .0 good .3 i l .0)) j h ts
 
   -- a code of an accepted list is accepted alone
   code-accepted : (j : ℕ) → j < length ws → codes.accepted (code ws j) ≡ true
   unfolding Boards-accepted Codes-accepted
   code-accepted j h = codes-accepted (code ws j) .1 (boards-accepted ws .0 good .3 j h)
+
+-- 4 and 5 never come up, and 6 and 7 only under their conditions
+only-own : (ws : List (List ℕ)) (rest : List ℕ) (ls : List Lent) → accepted ws ≡ true → Refuses-only ws (board ws ++ rest) (feed-run (board ws ++ rest) ls)
+unfolding Feeding-refused Watches-fit
+only-own ws rest ls good l =
+    let bs : List ℕ = board ws ++ rest in
+    let r : Outcome Watch Hit = feed-run bs ls in
+    let after = ap (λ (q : Outcome Watch Hit). q .after) (ran ws rest good ls) in
+    let taken : r .after .taken ≡ length (r .bytes) = ap (λ (x : Watch). x .taken) after in
+    let is : named bs ≡ ws = board-named ws rest in
+    let on : begins bs ≡ true = board-begins ws rest ∙ good in
+    let fits = rw taken at (watches-fit ws (r .after) .0 (rw after (text-fits ws good (r .bytes)))) in
+    let told = rw (is, taken) at (feeding-refused bs (r .after) l) in (
+      λ e. never-both on (told .0 .0 e),
+      λ e. told .1 .0 e .1 fits,
+      (λ e. told .2 .0 e .1 .1, λ s. told .2 .1 (on, (fits, s))),
+      (λ e. told .3 .0 e .1 .1, λ s. told .3 .1 (on, (fits, s))),
+      (λ e. told .4 .0 e .1 .1, λ s. told .4 .1 (on, (fits, s))),
+    )
 
 -- THE RUN
 pub entries-find : Entries-find
@@ -172,6 +185,7 @@ entries-find ws rest ls good =
       ordered = rw told (hits-ordered ws bs);
       coded = rw told (every-hit-map (hits ws bs) (λ h s. (s .some, s .listed)) (hits-coded ws bs));
       fits = rw after (text-fits ws good bs);
+      refused = only-own ws rest ls good;
     }
 
 pub prepared-find : Prepared-find
@@ -192,14 +206,3 @@ same-as-separate ws rest more ls ks j good h e =
     let u = entries-count w more ks (code-accepted ws good j h) in
     u .places ∙ places-right w (map finder.plain ks) ∙ ap (places w) (sym (u .text) ∙ e)
     ∙ sym (entries-find ws rest ls good .separate j h)
-
--- ONLY ITS OWN REFUSALS
-pub only-own-refusals : Only-own-refusals
-unfolding Only-own-refusals
-only-own-refusals ws rest ls l good =
-    let r : Outcome Watch Hit = feed-run (board ws ++ rest) ls in
-    let after = ap (λ (q : Outcome Watch Hit). q .after) (ran ws rest good ls) in
-    let is : feed-refusal (board ws ++ rest) (r .after) l ≡ call-refusal (length ws) (plain l) (length (r .bytes)) =
-    rw after (same-refusal ws rest good (r .bytes) l) in
-    let told = call-refusals (length ws) (plain l) (length (r .bytes)) in
-    (is, rw is (told .0), rw is (told .1), rw is (told .2), rw is (told .3))

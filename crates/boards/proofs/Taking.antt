@@ -1,6 +1,6 @@
 -- The loop over a piece: the bytes taken and the hits written so far come before what is fed of the rest. Assumes nothing.
 use mathlib.Core.Path.{_≡_, refl, sym, ap, _∙_}
-use mathlib.Core.Bool.{Bool, true, false}
+use mathlib.Core.Bool.{true, false}
 use mathlib.Core.List.{List, [], _++_, map}
 use Prim.Native.Nat.{ℕ, _+_, _*_, _-_, _≤_, _<_, min}
 use native.Mathlib.Nat.{add-zero}
@@ -16,12 +16,12 @@ use Rattle.runs.proofs.Feeds.{Taking, taking-start, taking-more, taking-done, t
 use Rattle.starts.specs.Starts.{code, start}
 use Rattle.starts.specs.Hits.{Hit, hits-at}
 use Rattle.starts.proofs.States.{state-within}
-use Rattle.starts.proofs.Codes.{is-code-at, code-known, number-at}
+use Rattle.starts.proofs.Codes.{is-code-at, code-known, none-empty, number-at}
 use Rattle.boards.specs.declared.Watch.{Watch}
 use Rattle.boards.specs.Board.{cut}
 use Rattle.boards.specs.Tables.{Good, Tree-lists, Linked, Link-lists, All-linked}
 use Rattle.boards.specs.Written.{Spliced}
-use Rattle.boards.specs.Pairs.{Pairs}
+use Rattle.boards.specs.Fronts.{Fronts}
 use Rattle.boards.specs.Feed.{feeder, feed}
 use Rattle.boards.specs.Entry.{lent, room}
 use Rattle.boards.specs.Inside.{Boarded, Hitting, On-hits, Wrote, Writes-hits, Advancing, On-advance, Advanced, Ready, Took}
@@ -40,21 +40,20 @@ spots-free k r n e t = omega (arith, e, leb-true k r t)
 pub spots-taken : (k r n : ℕ) → r ≡ n → leb k r ≡ false → n < k
 spots-taken k r n e t = omega (arith, e, leb-false k r t)
 
--- the words of first and second bytes, and where each code begins
-pub record Pair-lists : Type 0 where
-  pub first : List ℕ
-  pub second : List ℕ
+-- the words of the codes' first bytes, how many of these there are, and where each code begins
+pub record Front-lists : Type 0 where
+  pub words : List ℕ
   pub starts : List ℕ
-  pub longer : Bool
+  pub depth : ℕ
 
-abbrev pub pair-lists : (first second starts : List ℕ) → (longer : Bool) → Pair-lists
-pair-lists f s ss b = record { first = f; second = s; starts = ss; longer = b }
+abbrev pub front-lists : (words starts : List ℕ) → (depth : ℕ) → Front-lists
+front-lists ws ss d = record { words = ws; starts = ss; depth = d }
 
 -- WHAT EVERY TURN READS: the board's lists, the watch at the beginning, the piece, and those words
-pub record Feeds-from (ls bs : List ℕ) (t : Tree-lists) (l : Link-lists) (x : Watch) (piece : List ℕ) (f : Pair-lists) : Type 0 where
+pub record Feeds-from (ls bs : List ℕ) (t : Tree-lists) (l : Link-lists) (x : Watch) (piece : List ℕ) (f : Front-lists) : Type 0 where
   pub boarded : Boarded ls bs t l
   pub ready : Ready (cut ls bs) x (length piece)
-  pub pairs : Pairs (cut ls bs) (f .first) (f .second) (f .starts) (f .longer)
+  pub fronts : Fronts (cut ls bs) (f .depth) (f .words) (f .starts)
   pub small : (i : ℕ) → getD piece i 0 < 256
 
 -- a watch i bytes and k hits further on, in state g
@@ -62,17 +61,17 @@ abbrev pub further : Watch → (g i k : ℕ) → Watch
 further x g i k = record { state = g; taken = x .taken + i; hits = x .hits + k }
 
 -- i bytes are taken from watch x on, which led to state g, and k hits are written to lists that were a and p
-pub record Take-loop (ls bs : List ℕ) (t : Tree-lists) (l : Link-lists) (x : Watch) (piece : List ℕ) (f : Pair-lists) (a b p q : List ℕ) (g i k : ℕ)
+pub record Take-loop (ls bs : List ℕ) (t : Tree-lists) (l : Link-lists) (x : Watch) (piece : List ℕ) (f : Front-lists) (a b p q : List ℕ) (g i k : ℕ)
     : Type 0 where
   pub lists : Feeds-from ls bs t l x piece f
   pub told : List Hit
   pub taking : Taking (feeder (cut ls bs)) x piece (room (lent piece a p)) (further x g i k) i told
   pub count : k ≡ length told
   pub places-are : Spliced 0 (map (λ (h : Hit). h .place) told) a b
-  pub numbers-are : Spliced 0 (map (λ (h : Hit). h .code) told) p q
+  pub numbers-are : Spliced 0 (map (λ (h : Hit). h .number) told) p q
   pub fits : Fit (cut ls bs) (further x g i k)
 
-pub loop-start : {ls bs : List ℕ} {t : Tree-lists} {l : Link-lists} {x : Watch} {piece : List ℕ} {w : Pair-lists} (a p : List ℕ) →
+pub loop-start : {ls bs : List ℕ} {t : Tree-lists} {l : Link-lists} {x : Watch} {piece : List ℕ} {w : Front-lists} (a p : List ℕ) →
     Feeds-from ls bs t l x piece w → Take-loop ls bs t l x piece w a a p p (x .state) 0 0
 loop-start {ls} {bs} {x = x} {piece} a p f =
     record {
@@ -85,7 +84,7 @@ loop-start {ls} {bs} {x = x} {piece} a p f =
       fits = rw (add-zero (x .taken), add-zero (x .hits)) (fit-is (cut ls bs) x (f .ready .fits));
     }
 
-module _ {ls bs : List ℕ} {t : Tree-lists} {l : Link-lists} {x : Watch} {piece : List ℕ} {f : Pair-lists} {a b p q : List ℕ}
+module _ {ls bs : List ℕ} {t : Tree-lists} {l : Link-lists} {x : Watch} {piece : List ℕ} {f : Front-lists} {a b p q : List ℕ}
     {g i k : ℕ} (v : Take-loop ls bs t l x piece f a b p q g i k) where
   abbrev ws : List (List ℕ)
   ws = cut ls bs
@@ -137,19 +136,19 @@ module _ {ls bs : List ℕ} {t : Tree-lists} {l : Link-lists} {x : Watch} {piece
       (d ∙ sym (ending-list (length ws) piece (room (lent piece a p)) (fed (further x g i k) i (v .told)) none h))
 
   -- A TURN: what the next bytes need
-  pub turn-advancing : i < length piece → Advancing ws (start ws g) t (l .links) (f .first) (f .second) (f .starts) (f .longer) g piece i
+  pub turn-advancing : i < length piece → Advancing ws (start ws g) t (l .links) (f .words) (f .starts) (f .depth) g piece i
   turn-advancing inside =
       record {
         is-tree = v .lists .boarded .is-tree;
         linked = λ n. all-links n (v .lists .boarded .linked);
-        pairs = v .lists .pairs;
+        fronts = v .lists .fronts;
         known-is = start-is-known ws g;
         state-is = v .fits .state-is;
         inside = inside;
         bytes = λ j n. v .lists .small j;
       }
 
-  pub turn-needs : i < length piece → On-advance t (l .links) (f .first) (f .second) (f .starts) (f .longer) g piece i
+  pub turn-needs : i < length piece → On-advance t (l .links) (f .words) (f .starts) (f .depth) g piece i
   turn-needs inside =
       record { ws = ws; u = start ws g; advancing = turn-advancing inside }
 
@@ -178,7 +177,7 @@ module _ {ls bs : List ℕ} {t : Tree-lists} {l : Link-lists} {x : Watch} {piece
             shorts = λ i n. all .done (code ws i) (code-known ws (code ws i) (is-code-at ws i n)) .short i (number-at ws i (v .lists .boarded .once) n);
             shorts-long = omega (arith, good .codes, all .blank .shorter-long);
             codes-few = omega (arith, good .codes);
-            filled = v .lists .pairs .filled;
+            filled = none-empty ws (λ i n. let f = v .lists .fronts in omega (arith, f .some, f .within i n));
             nearest-is = o-is ∙ ap (λ (s : ℕ). getD (l .nearest) s 0) (sym (led .state-is)) ∙ all .done (start ws h) (led .known-is) .near;
             reached = next-start;
             places-room = omega (arith, loop-long .0);
@@ -215,8 +214,8 @@ module _ {ls bs : List ℕ} {t : Tree-lists} {l : Link-lists} {x : Watch} {piece
                   rw (map-app (λ (z : Hit). z .place) (v .told) hs)
                   (spliced-then (v .places-are) (omega (arith, v .count, length-map (v .told) (λ (z : Hit). z .place))) (wrote .places-are));
               numbers-are =
-                  rw (map-app (λ (z : Hit). z .code) (v .told) hs)
-                  (spliced-then (v .numbers-are) (omega (arith, v .count, length-map (v .told) (λ (z : Hit). z .code))) (wrote .numbers-are));
+                  rw (map-app (λ (z : Hit). z .number) (v .told) hs)
+                  (spliced-then (v .numbers-are) (omega (arith, v .count, length-map (v .told) (λ (z : Hit). z .number))) (wrote .numbers-are));
               fits =
                   record {
                     state-is = led .state-is;

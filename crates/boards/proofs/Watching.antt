@@ -1,26 +1,22 @@
--- Feeding by its laws: what a byte does to the watch of a text, that a byte keeps a watch fit, and bytes that are passed in state 0. Assumes nothing.
+-- Feeding by its laws: what a byte does to the watch of a text, and that a byte keeps a watch fit. Assumes nothing.
 use mathlib.Core.Path.{_≡_, refl, sym, ap, _∙_}
-use mathlib.Core.Bool.{Bool, true, false, _&&_}
+use mathlib.Core.Bool.{Bool, true, _&&_}
 use mathlib.Core.List.{List, [], _∷_, _++_}
 use Prim.Native.Nat.{ℕ, suc, _+_, _*_, _≤_, _<_}
-use native.Mathlib.Nat.{add-zero, sub-zero}
 use native.Mathlib.Omega.{arith}
 use lib.Dec.{leb}
 use lib.ListN.{length, length-append}
 use borrow.Author.Tests.{leb-true, le-leb, eqb-true, eq-eqb}
 use Rattle.words.proofs.Tests.{by-le, and-left, and-right, and-both}
 use Rattle.words.proofs.Lists.{length-snoc}
-use Rattle.runs.specs.Reading.{fed-more}
 use Rattle.runs.proofs.Over.{over-snoc, over-few}
-use Rattle.runs.proofs.Feeds.{feed-on}
-use Rattle.starts.specs.Starts.{known, total, state, start, is-state, reached, is-code}
+use Rattle.starts.specs.Starts.{known, total, state, start, is-state, reached}
 use Rattle.starts.specs.Hits.{hits-at, hits-after, hits}
-use Rattle.starts.proofs.States.{known-nil, start-nil, start-state, start-known, state-nil}
+use Rattle.starts.proofs.States.{known-nil, start-state, start-known}
 use Rattle.starts.proofs.Ends.{reached-known, reached-short, reached-next}
-use Rattle.starts.proofs.Nearest.{passing-none, passing-reached}
-use Rattle.starts.proofs.Hits.{hits-few, hits-none, hits-reached}
+use Rattle.starts.proofs.Hits.{hits-few, hits-reached}
 use Rattle.boards.specs.declared.Watch.{Watch}
-use Rattle.boards.specs.Feed.{fit, stepped, reported, with-byte, feeder, feed, watch-of}
+use Rattle.boards.specs.Feed.{fit, stepped, reported, with-byte, watch-of}
 use Rattle.boards.proofs.Fitness.{start-over}
 
 -- every number has a known start, a state or not
@@ -28,19 +24,11 @@ pub start-is-known : (ws : List (List ℕ)) (g : ℕ) → known ws (start ws g) 
 start-is-known ws g =
     by-le g (total ws) (start-known ws g) (λ (h : total ws < g). rw (start-over ws g h) (known-nil ws))
 
--- a watch in state 0
-abbrev pub resting : (taken hits : ℕ) → Watch
-resting n h = record { state = 0; taken = n; hits = h }
-
 module _ (ws : List (List ℕ)) where
   -- ONE BYTE from the state of a known start, and what it reports there
   pub stepped-from : (u : List ℕ) (g c : ℕ) → known ws u ≡ true → state ws u ≡ g → stepped ws g c ≡ state ws (reached ws (u ++ (c ∷ [])))
   unfolding stepped
   stepped-from u g c k e = rw (← e, start-state ws u k)
-
-  pub stepped-start : (g c : ℕ) → start ws (stepped ws g c) ≡ reached ws (start ws g ++ (c ∷ []))
-  unfolding stepped
-  stepped-start g c = start-state ws (reached ws (start ws g ++ (c ∷ []))) (reached-known ws (start ws g ++ (c ∷ [])))
 
   pub hits-at-few : (u : List ℕ) (n : ℕ) → length (hits-at ws u n) ≤ length ws
   unfolding hits-at
@@ -123,43 +111,3 @@ module _ (ws : List (List ℕ)) where
         let size : length us ≡ suc (length (start ws (x .state))) = length-snoc (start ws (x .state)) c in
         fit-start (reached ws us) (suc (x .taken)) (x .hits + length (reported ws c x)) (reached-known ws us)
         (omega (arith, reached-short ws us, f .reached)) (omega (arith, f .few, reported-few c x))
-
-  -- PASSING in state 0
-  stepped-zero : (c : ℕ) → stepped ws 0 c ≡ state ws (reached ws (c ∷ []))
-  unfolding stepped
-  stepped-zero c = rw (start-nil ws)
-
-  -- two states from which a byte leads to one are as good before it
-  feed-same : (g q : ℕ) (b : ℕ) (cs : List ℕ) (k n h : ℕ) → length ws ≤ k → stepped ws g b ≡ stepped ws q b →
-      feed ws (b ∷ cs) k (record { state = g; taken = n; hits = h })
-      ≡ feed ws (b ∷ cs) k (record { state = q; taken = n; hits = h })
-  unfolding with-byte reported
-  feed-same g q b cs k n h l e =
-      feed-on (feeder ws) b cs k (record { state = g; taken = n; hits = h }) l
-      ∙ rw e (sym (feed-on (feeder ws) b cs k (record { state = q; taken = n; hits = h }) l))
-
-  pub fit-resting : (n h : ℕ) → h ≤ 64 * n → Fit (resting n h)
-  fit-resting n h f = rw (state-nil ws) at (fit-start [] n h (known-nil ws) (omega arith) f)
-
-  -- where no code begins with two bytes and none is the first alone, the first is taken and nothing else happens
-  module _ (empty : is-code ws [] ≡ false) (a : ℕ) (one : is-code ws (a ∷ []) ≡ false) (n h : ℕ) where
-    passing-tells : reported ws a (resting n h) ≡ []
-    unfolding reported
-    passing-tells = rw (stepped-start 0 a, start-nil ws) (hits-none ws (suc n) (reached ws (a ∷ [])) (passing-none ws a one empty))
-
-    passing-byte : with-byte ws a (resting n h) ≡ record { state = stepped ws 0 a; taken = suc n; hits = h }
-    unfolding with-byte
-    passing-byte = rw (passing-tells, add-zero h) refl
-
-    module _ (b : ℕ) (two : known ws (a ∷ b ∷ []) ≡ false) where
-      passing-step : stepped ws (stepped ws 0 a) b ≡ stepped ws 0 b
-      passing-step =
-          stepped-from (reached ws (a ∷ [])) (stepped ws 0 a) b (reached-known ws (a ∷ [])) (sym (stepped-zero a))
-          ∙ ap (state ws) (passing-reached ws a b two)
-          ∙ sym (stepped-zero b)
-
-      pub feed-pass : (cs : List ℕ) (k : ℕ) → length ws ≤ k →
-          feed ws (a ∷ b ∷ cs) k (resting n h) ≡ fed-more 1 [] (feed ws (b ∷ cs) k (resting (suc n) h))
-      feed-pass cs k l =
-          feed-on (feeder ws) a (b ∷ cs) k (resting n h) l
-          ∙ rw (passing-tells, passing-byte, sub-zero k) (ap (fed-more 1 []) (feed-same (stepped ws 0 a) 0 b cs k (suc n) h l passing-step))

@@ -30,12 +30,13 @@ most-bytes = 2000
 abbrev pub board-room : ℕ
 board-room = 32768
 
--- REFUSALS of codes handed over as lengths and bytes: 1, 2, 10, 13, then 11
+-- whether some number is above a limit
 unfoldable pub some-above : (limit : ℕ) → List ℕ → Bool
 some-above k [] = false
 some-above k (l ∷ ls) = ltb k l || some-above k ls
 
--- whether so many codes, so many bytes, or lengths that do not add up to them are refused
+-- REFUSALS of codes handed over as lengths and bytes: 1, 2, 10, 13, then 11. Whether there are no codes, too many codes or bytes, or lengths that do not add up
+-- to the bytes
 unfoldable pub no-board : (lengths bytes : List ℕ) → Bool
 no-board ls bs =
     (eqb (length ls) 0 || ltb most-codes (length ls)) || (ltb most-bytes (length bs) || not (eqb (sum ls) (length bs)))

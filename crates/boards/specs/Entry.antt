@@ -74,7 +74,7 @@ abbrev pub fed-call : (ws : List (List ℕ)) → Fed Watch Hit → Lent → Feed
 fed-call ws f l =
     record {
       answer = record { watch = f .after; taken = f .taken; written = length (f .told); ending = ending (length ws) (l .piece) (room l) f };
-      left = lent (l .piece) (in-front (map (λ (h : Hit). h .place) (f .told)) (l .places)) (in-front (map (λ (h : Hit). h .code) (f .told)) (l .numbers));
+      left = lent (l .piece) (in-front (map (λ (h : Hit). h .place) (f .told)) (l .places)) (in-front (map (λ (h : Hit). h .number) (f .told)) (l .numbers));
     }
 
 -- one that is: the watch and all that was lent are as they were

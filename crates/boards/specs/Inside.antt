@@ -14,7 +14,7 @@ use Rattle.boards.specs.declared.Feeding.{Feeding}
 use Rattle.boards.specs.Board.{cut, list-refusal, pairs-of, named-lengths, named-bytes}
 use Rattle.boards.specs.Tables.{Good, Tree-lists, Roomy, Tree, Linked, Link-lists, All-linked}
 use Rattle.boards.specs.Written.{Spliced}
-use Rattle.boards.specs.Pairs.{Pairs}
+use Rattle.boards.specs.Fronts.{Fronts}
 use Rattle.boards.specs.Feed.{fit, feed}
 use Rattle.boards.specs.Entry.{Lent, room, fed-call}
 
@@ -76,27 +76,26 @@ pub record On-hits (ls short : List ℕ) (o taken k places numbers : ℕ) : Type
 pub record Wrote (hs : List Hit) (k end : ℕ) (a b p q : List ℕ) : Type 0 where
   pub end-is : end ≡ k + length hs
   pub places-are : Spliced k (map (λ (h : Hit). h .place) hs) a b
-  pub numbers-are : Spliced k (map (λ (h : Hit). h .code) hs) p q
+  pub numbers-are : Spliced k (map (λ (h : Hit). h .number) hs) p q
 
 abbrev pub Writes-hits : (ls short : List ℕ) → (o taken k r : ℕ) → (a b p q : List ℕ) → Type 0
 Writes-hits ls short o n k r a b p q =
     (ws : List (List ℕ)) (u : List ℕ) → Hitting ws u ls short o n k (length a) (length p) → Wrote (hits-at ws u n) k r a b p q
 
 -- THE NEXT BYTES of a piece, from the start u of state g at index i on
-pub record Advancing (ws : List (List ℕ)) (u : List ℕ) (t : Tree-lists) (links first second starts : List ℕ) (longer : Bool) (g : ℕ) (piece : List ℕ) (i : ℕ)
-    : Type 0 where
+pub record Advancing (ws : List (List ℕ)) (u : List ℕ) (t : Tree-lists) (links words starts : List ℕ) (depth g : ℕ) (piece : List ℕ) (i : ℕ) : Type 0 where
   pub is-tree : Tree ws t
   pub linked : (n : ℕ) → Linked ws n links
-  pub pairs : Pairs ws first second starts longer
+  pub fronts : Fronts ws depth words starts
   pub known-is : known ws u ≡ true
   pub state-is : state ws u ≡ g
   pub inside : i < length piece
   pub bytes : (j : ℕ) → j < length piece → getD piece j 0 < 256
 
-pub record On-advance (t : Tree-lists) (links first second starts : List ℕ) (longer : Bool) (g : ℕ) (piece : List ℕ) (i : ℕ) : Type 0 where
+pub record On-advance (t : Tree-lists) (links words starts : List ℕ) (depth g : ℕ) (piece : List ℕ) (i : ℕ) : Type 0 where
   pub ws : List (List ℕ)
   pub u : List ℕ
-  pub advancing : Advancing ws u t links first second starts longer g piece i
+  pub advancing : Advancing ws u t links words starts depth g piece i
 
 -- they lead to state h behind index j, and only the last of them has hits
 pub record Advanced (ws : List (List ℕ)) (u piece : List ℕ) (g i h j : ℕ) : Type 0 where
@@ -111,9 +110,9 @@ pub record Advanced (ws : List (List ℕ)) (u piece : List ℕ) (g i h j : ℕ) 
       feed ws (drop i piece) k x
       ≡ fed-more (j - i) hs (feed ws (drop j piece) (k - length hs) (record { state = h; taken = n; hits = x .hits + length hs }))
 
-abbrev pub Advances : (t : Tree-lists) → (links first second starts : List ℕ) → (longer : Bool) → (g : ℕ) → (piece : List ℕ) → (i h j : ℕ) → Type 0
-Advances t l f s ss b g cs i h j =
-    (ws : List (List ℕ)) (u : List ℕ) → Advancing ws u t l f s ss b g cs i → Advanced ws u cs g i h j
+abbrev pub Advances : (t : Tree-lists) → (links words starts : List ℕ) → (depth g : ℕ) → (piece : List ℕ) → (i h j : ℕ) → Type 0
+Advances t l ws ss d g cs i h j =
+    (vs : List (List ℕ)) (u : List ℕ) → Advancing vs u t l ws ss d g cs i → Advanced vs u cs g i h j
 
 -- A PIECE of so many bytes can be taken with a watch
 pub record Ready (ws : List (List ℕ)) (x : Watch) (piece : ℕ) : Type 0 where

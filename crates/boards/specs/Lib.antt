@@ -1,7 +1,7 @@
 pub mod Board
 pub mod Tables
 pub mod Written
-pub mod Pairs
+pub mod Fronts
 pub mod Feed
 pub mod Entry
 pub mod Inside

@@ -16,32 +16,46 @@ use Rattle.starts.specs.Hits.{Hit, hits, places-of, Every-hit, Ordered}
 use Rattle.boards.specs.declared.Watch.{Watch}
 use Rattle.boards.specs.declared.Feeding.{Feeding}
 use Rattle.boards.specs.Board.{cut, accepted, board, named}
+use Rattle.boards.specs.Promise.{Spots}
 use Rattle.boards.specs.Feed.{opened, fit, feed}
-use Rattle.boards.specs.Entry.{prepare-refusal, prepare-buffer, Lent, room, plain, call-refusal, feed-refusal, feed-call, Feed-says, paired, feed-run}
+use Rattle.boards.specs.Entry.{prepare-refusal, prepare-buffer, Lent, room, feed-refusal, feed-call, Feed-says, paired, feed-run}
+
+-- AFTER A RUN a call, whatever it is lent, is refused with 6 exactly if a list has fewer spots than there are codes, else with 7 exactly if more than
+-- 4294967295 bytes would be taken, and else not at all; 4 and 5 never come up
+abbrev pub Refuses-only : (ws : List (List ℕ)) → (buffer : List ℕ) → Outcome Watch Hit → Type 0
+Refuses-only ws bs r =
+    (l : Lent) → let n = feed-refusal bs (r .after) l in
+    (n ≢ 4)
+    × (n ≢ 5)
+    × ((n ≡ 6) ↔ (¬ Spots ws l))
+    × ((n ≡ 7) ↔ (Spots ws l × (4294967295 < length (r .bytes) + length (l .piece))))
+    × ((n ≡ 0) ↔ (Spots ws l × (length (r .bytes) + length (l .piece) ≤ 4294967295)))
 
 -- THE RUN, from an opening on, of any calls: the watch has counted the bytes taken and the hits, and its state is that of the bytes taken; the hits told are
 -- those in the bytes taken, by rising last byte, longer codes first, so none twice; each has the number of a code, from 1; and those with a code's number are
--- exactly the places that a search for this code alone finds in the bytes taken
-pub record Run-found (ws : List (List ℕ)) (r : Outcome Watch Hit) : Type 0 where
+-- exactly the places that a search for this code alone finds in the bytes taken. And the next call meets only refusals of its own
+pub record Run-found (ws : List (List ℕ)) (buffer : List ℕ) (r : Outcome Watch Hit) : Type 0 where
   pub bytes-are : r .after .taken ≡ length (r .bytes)
   pub state-is : r .after .state ≡ state ws (reached ws (r .bytes))
   pub hits-are : r .after .hits ≡ length (r .told)
   pub told-are : r .told ≡ hits ws (r .bytes)
   pub separate : (j : ℕ) → j < length ws → places-of (suc j) (r .told) ≡ places (code ws j) (r .bytes)
   pub ordered : Ordered ws (r .told)
-  pub coded : Every-hit (λ h. (1 ≤ h .code) × (h .code ≤ length ws)) (r .told)
+  pub coded : Every-hit (λ h. (1 ≤ h .number) × (h .number ≤ length ws)) (r .told)
   pub fits : fit ws (r .after) ≡ true
+  pub refused : Refuses-only ws buffer r
 
 -- on a buffer that begins with the board of accepted codes
 unfoldable pub Entries-find : Type 0
 Entries-find =
-    (ws : List (List ℕ)) (rest : List ℕ) (ls : List Lent) → accepted ws ≡ true → Run-found ws (feed-run (board ws ++ rest) ls)
+    (ws : List (List ℕ)) (rest : List ℕ) (ls : List Lent) → accepted ws ≡ true →
+    Run-found ws (board ws ++ rest) (feed-run (board ws ++ rest) ls)
 
 -- so from preparing on: on the buffer that preparing left, if it was not refused
 unfoldable pub Prepared-find : Type 0
 Prepared-find =
     (lengths bytes buffer : List ℕ) (ls : List Lent) → prepare-refusal lengths bytes (length buffer) ≡ 0 →
-    Run-found (cut lengths bytes) (feed-run (prepare-buffer lengths bytes buffer) ls)
+    Run-found (cut lengths bytes) (prepare-buffer lengths bytes buffer) (feed-run (prepare-buffer lengths bytes buffer) ls)
 
 -- SEPARATE WATCHES: a run of the finder with one of the codes, however its text was cut, writes what the board's run writes with that code's number, if both
 -- have taken the same bytes
@@ -51,19 +65,6 @@ Same-as-separate =
     let r = feed-run (board ws ++ rest) ls in
     let q = finder.feed-run finder.told-places (sheet.sheet (code ws j) ++ more) ks in
     q .bytes ≡ r .bytes → q .told ≡ places-of (suc j) (r .told)
-
--- in such a run a call is refused with 6 exactly if a list has fewer spots than there are codes, else with 7 exactly if more than 4294967295 bytes would be
--- taken; 4 and 5 never come up
-unfoldable pub Only-own-refusals : Type 0
-Only-own-refusals =
-    (ws : List (List ℕ)) (rest : List ℕ) (ls : List Lent) (l : Lent) → accepted ws ≡ true →
-    let r = feed-run (board ws ++ rest) ls in
-    let n = feed-refusal (board ws ++ rest) (r .after) l in
-    (n ≡ call-refusal (length ws) (plain l) (length (r .bytes)))
-    × ((n ≡ 6) ↔ (room l < length ws))
-    × ((n ≡ 7) ↔ ((length ws ≤ room l) × (4294967295 < length (r .bytes) + length (l .piece))))
-    × (n ≢ 4)
-    × (n ≢ 5)
 
 -- two runs alike in the codes and the bytes taken end alike, in the watch and in the hits
 unfoldable pub Entries-alike : Type 0

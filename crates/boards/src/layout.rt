@@ -1,15 +1,12 @@
 // The board in bytes: the codes and the links of their starts. Each part is written behind the one before it.
-ghost use mathlib.Core.Path.{_≡_};
 ghost use Prim.Native.Nat.{_+_, _*_, _≤_};
-ghost use lib.ListN.{length, take};
-ghost use Rattle.words.specs.Words.{Every, same};
+ghost use lib.ListN.{length};
 ghost use Rattle.sheets.specs.Sheet.{numbers};
 ghost use Rattle.boards.specs.Board.{cut};
 ghost use Rattle.boards.specs.Tables.{tables};
-ghost use Rattle.boards.specs.Written.{Spliced, Small, rows-in, On-lengths, On-rows, On-board, Board-made};
+ghost use Rattle.boards.specs.Written.{Spliced, rows-in, On-lengths, On-rows, On-board, Board-made};
 use crate::index;
 use crate::long;
-use sheets::wide;
 
 // Puts lengths in two bytes each.
 fn put_lengths(lengths: &[u32], area: &mut [u8], at: usize)
@@ -73,23 +70,4 @@ pub(crate) fn write_board(
     put_bytes(&shorter[0..k], area, behind);
     put_rows(links, nearest, n + 1, area, behind + k);
     behind + k + 3 * (n + 1)
-}
-
-// Whether the first n bytes of a and b are the same; a may be shorter. It goes on behind a difference, so that the compiler compares many at a time.
-pub(crate) fn same_front(a: &[u8], b: &[u8], n: usize) -> bool
-    requires { ⌜ n ≤ length (now b) ⌝ }
-    ensures { λ r. ⌜ r ≡ same (take n (now (a .entry))) (take n (now (b .entry))) ⌝ }
-{
-    if a.len() < n {
-        return false;
-    }
-    let mut same = true;
-    let mut i = 0;
-    while i < n {
-        if a[i] != b[i] {
-            same = false;
-        }
-        i += 1;
-    }
-    same
 }

@@ -18,9 +18,9 @@ use codes::LONGEST;
 use codes::has_control;
 use runs::Ending;
 
+mod fronts;
 mod layout;
 mod links;
-mod pairs;
 mod piece;
 mod tree;
 

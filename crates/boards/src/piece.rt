@@ -12,17 +12,17 @@ use crate::MOST_CODES;
 use crate::Watch;
 use crate::add_up;
 use crate::build;
+use crate::fronts::enter;
+use crate::fronts::pass;
+use crate::fronts::put_fronts;
 use crate::index;
-use crate::layout::same_front;
 use crate::layout::write_board;
 use crate::links::step;
 use crate::list_refusal;
 use crate::long;
-use crate::pairs::enter;
-use crate::pairs::pair_codes;
-use crate::pairs::pass;
 use runs::Ending;
 use sheets::pair;
+use sheets::same_front;
 use sheets::wide;
 
 // The smaller of two numbers.
@@ -65,35 +65,34 @@ struct Stride {
     at: usize,
 }
 
-// The next byte; from state 0 first the bytes at which no code begins, and where a code does, its first two at once.
+// The next byte; from state 0 first those at which no code begins, and where one does, its first bytes at once.
 fn advance(
     next: &[u16],
     forks: &[u64],
     keys: &[u64],
     heads: &[u16],
     links: &[u16],
-    first: &[u64],
-    second: &[u64],
+    words: &[u64],
     starts: &[usize],
-    longer: bool,
+    depth: usize,
     g: usize,
     piece: &[u8],
     i: usize,
 ) -> Stride
     requires { ⌜
-        On-advance (tree (now next) (now forks) (now keys) (now heads)) (now links) (now first) (now second) (now starts) longer g (now piece) i ⌝ }
+        On-advance (tree (now next) (now forks) (now keys) (now heads)) (now links) (now words) (now starts) depth g (now piece) i ⌝ }
     ensures { λ r. ⌜
-        Advances (tree (now (next .entry)) (now (forks .entry)) (now (keys .entry)) (now (heads .entry))) (now (links .entry)) (now (first .entry))
-        (now (second .entry)) (now (starts .entry)) longer g (now (piece .entry)) i (r .state) (r .at) ⌝ }
+        Advances (tree (now (next .entry)) (now (forks .entry)) (now (keys .entry)) (now (heads .entry))) (now (links .entry)) (now (words .entry))
+        (now (starts .entry)) depth g (now (piece .entry)) i (r .state) (r .at) ⌝ }
 {
     let mut p = i;
     if g == 0 {
-        p = pass(first, second, piece, i);
+        p = pass(words, piece, i);
     }
-    if longer && g == 0 && p + 1 < piece.len() {
+    if g == 0 && p + 3 < piece.len() {
         return Stride {
-            state: enter(first, second, starts, piece, p),
-            at: p + 2,
+            state: enter(words, starts, depth, piece, p),
+            at: p + depth,
         };
     }
     Stride {
@@ -125,10 +124,9 @@ fn take_bytes(
         Took (cut (now (lengths .entry)) (now (bytes .entry))) watch (lent (now (piece .entry)) (now (places .entry)) (now (numbers .entry))) r
         (lent (now (piece .exit)) (now (places .exit)) (now (numbers .exit))) ⌝ }
 {
-    let mut first = [0u64; 256];
-    let mut second = [0u64; 256];
+    let mut words = [0u64; 1024];
     let mut starts = [0usize; 64];
-    let longer = pair_codes(lengths, bytes, &mut first, &mut second, &mut starts);
+    let depth = put_fronts(lengths, bytes, &mut words, &mut starts);
     let count = lengths.len();
     let room = least(places.len(), numbers.len());
     let mut g = watch.state as usize;
@@ -141,10 +139,9 @@ fn take_bytes(
             keys,
             heads,
             links,
-            &first,
-            &second,
+            &words,
             &starts,
-            longer,
+            depth,
             g,
             piece,
             i,

@@ -10,7 +10,7 @@ use sheets::prepare;
 
 mod board;
 
-// What preparing answers: the sheet's length, or 0 and the refusal's number.
+// What preparing answers: the length of the sheet or board, or 0 and the refusal's number.
 #[repr(C)]
 pub struct PreparedNumbers {
     pub length: u64,

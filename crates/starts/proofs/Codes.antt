@@ -8,7 +8,7 @@ use native.Mathlib.Omega.{arith}
 use lib.ListN.{length}
 use lib.Seq.{take-length}
 use Rattle.words.specs.Words.{same}
-use Rattle.words.proofs.Tests.{by-test, never-both, or-none, or-swap}
+use Rattle.words.proofs.Tests.{by-test, never-both, fails, or-none, or-swap}
 use Rattle.words.proofs.Lists.{same-refl, same-eq, not-same, same-sym}
 use Rattle.starts.specs.Starts.{code, known, is-code, index, number, twice}
 use Rattle.starts.proofs.States.{start-test, known-at}
@@ -54,10 +54,16 @@ index-least (w ∷ ws) (suc j) h =
     (λ t. omega (arith, index-here w (code ws j) ws t))
     (λ t. omega (arith, index-later w (code ws j) ws t, index-least ws j (omega arith)))
 
--- a code is a start of itself, and has a byte where no code is empty
+-- a code is a start of itself; it has as many bytes as all codes have, so a byte where no code is empty
 pub code-known : (ws : List (List ℕ)) (u : List ℕ) → is-code ws u ≡ true → known ws u ≡ true
 code-known ws u e =
     known-at ws u (index ws u) (index-below ws u e) (rw (code-index ws u e) (start-test u u (take-length u)))
+
+pub code-within : (ws : List (List ℕ)) (d : ℕ) → ((j : ℕ) → j < length ws → d ≤ length (code ws j)) → (u : List ℕ) → is-code ws u ≡ true → d ≤ length u
+code-within ws d within u e = rw (code-index ws u e) at (within (index ws u) (index-below ws u e))
+
+pub none-empty : (ws : List (List ℕ)) → ((j : ℕ) → j < length ws → 1 ≤ length (code ws j)) → is-code ws [] ≡ false
+none-empty ws some = fails (is-code ws []) (λ e. omega (arith, code-within ws 1 some [] e))
 
 pub code-some : (ws : List (List ℕ)) → is-code ws [] ≡ false → (u : List ℕ) → is-code ws u ≡ true → 0 < length u
 code-some ws empty [] e = absurd (never-both e empty)

@@ -5,7 +5,7 @@ use mathlib.Core.Bool.{Bool, true, false}
 use mathlib.Core.List.{List, [], _∷_, _++_}
 use Prim.Native.Nat.{ℕ, zero, suc, _-_, _≤_, _<_}
 use native.Mathlib.Omega.{arith}
-use lib.ListN.{length}
+use lib.ListN.{length, drop}
 use Rattle.words.specs.Words.{suffix, largest}
 use Rattle.words.proofs.Tests.{never-both, fails}
 use Rattle.words.proofs.Lists.{length-snoc, length-suffix, suffix-none, suffix-whole, suffix-suffix, suffix-snoc}
@@ -165,6 +165,21 @@ module _ (ws : List (List ℕ)) where
   reached-back : (u : List ℕ) → known ws u ≡ false → reached ws u ≡ fallback ws u
   unfolding reached fallback
   reached-back u e = longest-less (known ws) u e
+
+  -- after a word that is none: shorter than the word, and as if its first byte had not been
+  pub reached-less : (u : List ℕ) → known ws u ≡ false → 1 ≤ length u → length (reached ws u) < length u
+  reached-less u e h = rw (reached-back u e) (fallback-shorter u h)
+
+  pub reached-tail : (c : ℕ) (v : List ℕ) → known ws (c ∷ v) ≡ false → reached ws (c ∷ v) ≡ reached ws v
+  unfolding reached fallback suffix
+  reached-tail c v e =
+      let one : suc (length v) - length v ≡ 1 = omega arith in
+      let less : suc (length v) - 1 ≡ length v = omega arith in
+      let tail : suffix (length v) (c ∷ v) ≡ v = ap (λ (k : ℕ). drop k (c ∷ v)) one in
+      reached-back (c ∷ v) e
+      ∙ ap (λ (k : ℕ). longest-end (known ws) k (c ∷ v)) less
+      ∙ sym (longest-inner (known ws) (length v) (length v) (c ∷ v) (omega arith) (omega arith))
+      ∙ ap (longest-end (known ws) (length v)) tail
 
   pub step-known : (u : List ℕ) (c : ℕ) → known ws (u ++ (c ∷ [])) ≡ true → reached ws (u ++ (c ∷ [])) ≡ u ++ (c ∷ [])
   step-known u c e = reached-self (u ++ (c ∷ [])) e

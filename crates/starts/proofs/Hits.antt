@@ -166,8 +166,8 @@ every-hit-append P (h ∷ hs) ks all more = (all .0, every-hit-append P hs ks (a
 
 -- a hit of one of the codes, of at most n bytes, that ends after t bytes of the text
 pub record Stands (ws : List (List ℕ)) (n t : ℕ) (h : Hit) : Type 0 where
-  pub some : 0 < h .code
-  pub listed : h .code ≤ length ws
+  pub some : 0 < h .number
+  pub listed : h .number ≤ length ws
   pub ends : hit-end ws h ≡ t
   pub short : hit-length ws h ≤ n
 
@@ -272,8 +272,8 @@ module _ (ws : List (List ℕ)) where
 
 -- a hit of one of the codes whose last byte is after the first a bytes of a text and among the first b
 pub record Between (ws : List (List ℕ)) (a b : ℕ) (h : Hit) : Type 0 where
-  pub some : 0 < h .code
-  pub listed : h .code ≤ length ws
+  pub some : 0 < h .number
+  pub listed : h .number ≤ length ws
   pub after : a < hit-end ws h
   pub within : hit-end ws h ≤ b
 

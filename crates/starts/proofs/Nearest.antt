@@ -1,13 +1,14 @@
--- The longest code that a word ends with, and the longest shorter one, told by failure links; and two bytes that no code starts with. Assumes nothing.
-use mathlib.Core.Path.{_≡_, sym, ap, _∙_}
+-- The longest code that a word ends with, and the longest shorter one, told by failure links. Assumes nothing.
+use mathlib.Core.Path.{_≡_, ap, _∙_}
 use mathlib.Core.Bool.{true, false}
-use mathlib.Core.List.{List, [], _∷_, _++_}
-use Prim.Native.Nat.{ℕ, _-_, _≤_}
+use mathlib.Core.List.{List, []}
+use Prim.Native.Nat.{ℕ, _-_, _≤_, _<_}
 use native.Mathlib.Omega.{arith}
 use lib.ListN.{length}
-use Rattle.starts.specs.Starts.{known, reached, fallback, is-code, number, nearest, shorter}
+use Rattle.words.proofs.Tests.{fails}
+use Rattle.starts.specs.Starts.{known, longest-end, reached, fallback, is-code, number, nearest, shorter}
 use Rattle.starts.proofs.Codes.{code-known, number-none}
-use Rattle.starts.proofs.Ends.{longest-none, longest-self, longest-less, longest-both, reached-next, fallback-one, step-back}
+use Rattle.starts.proofs.Ends.{longest-is, longest-none, longest-self, longest-less, longest-both}
 
 module _ (ws : List (List ℕ)) where
   -- THE LONGEST CODE that a word ends with: the word itself, else one that the failure link ends with
@@ -31,19 +32,14 @@ module _ (ws : List (List ℕ)) where
   unfolding nearest reached
   nearest-reached ts = ap (number ws) (longest-both (known ws) (is-code ws) (length ts) ts (omega arith) (λ v h. code-known ws v))
 
-  -- where no code is empty: none ends the empty word, and none a word of one byte that is none
+  -- where no code is empty none ends the empty word, and none a word that is shorter than every code
   pub nearest-nil : is-code ws [] ≡ false → nearest ws [] ≡ 0
   unfolding nearest
   nearest-nil e = ap (number ws) (longest-none (is-code ws) []) ∙ number-none ws [] e
 
-  pub nearest-one : (u : List ℕ) → length u ≤ 1 → is-code ws u ≡ false → is-code ws [] ≡ false → nearest ws u ≡ 0
-  nearest-one u h e n = nearest-back u e ∙ ap (nearest ws) (fallback-one ws u h) ∙ nearest-nil n
-
-  -- PASSING two bytes that no code starts with: after the first no code ends, and after the second all is as if the first had not been
-  pub passing-none : (a : ℕ) → is-code ws (a ∷ []) ≡ false → is-code ws [] ≡ false → nearest ws (reached ws (a ∷ [])) ≡ 0
-  passing-none a e n = sym (nearest-reached (a ∷ [])) ∙ nearest-one (a ∷ []) (omega arith) e n
-
-  pub passing-reached : (a b : ℕ) → known ws (a ∷ b ∷ []) ≡ false → reached ws (reached ws (a ∷ []) ++ (b ∷ [])) ≡ reached ws (b ∷ [])
-  passing-reached a b e =
-      sym (reached-next ws (a ∷ []) b) ∙ step-back ws (a ∷ []) b e (omega arith)
-      ∙ ap (λ v. reached ws (v ++ (b ∷ []))) (fallback-one ws (a ∷ []) (omega arith))
+  pub nearest-short : (d : ℕ) → ((v : List ℕ) → is-code ws v ≡ true → d ≤ length v) → (u : List ℕ) → length u < d → nearest ws u ≡ 0
+  unfolding nearest
+  nearest-short d long u h =
+      let v = longest-end (is-code ws) (length u) u in
+      let few = longest-is (is-code ws) (length u) u (omega arith) .bound in
+      number-none ws v (fails (is-code ws v) (λ e. let l = long v e in absurd (omega arith)))

@@ -25,7 +25,7 @@ pub places-append : (j : ℕ) (hs ks : List Hit) → places-of j (hs ++ ks) ≡ 
 unfolding places-of
 places-append j [] ks = refl
 places-append j (h ∷ hs) ks =
-    by-test (eqb (h .code) j)
+    by-test (eqb (h .number) j)
     (λ t. rw t (ap (λ (l : List ℕ). h .place ∷ l) (places-append j hs ks)))
     (λ t. rw t (places-append j hs ks))
 

@@ -12,10 +12,10 @@ use Rattle.starts.specs.Starts.{code, is-code, number}
 -- A HIT: the place, the offset of the code's first byte, and the code's number, from 1
 pub record Hit : Type 0 where
   pub place : ℕ
-  pub code : ℕ
+  pub number : ℕ
 
-abbrev pub hit : (place code : ℕ) → Hit
-hit p j = record { place = p; code = j }
+abbrev pub hit : (place number : ℕ) → Hit
+hit p j = record { place = p; number = j }
 
 -- the codes of at most n bytes that a word ends with, longer ones first; the word ends after `taken` bytes of the text
 unfoldable pub hits-within : (ws : List (List ℕ)) → (n : ℕ) → (u : List ℕ) → (taken : ℕ) → List Hit
@@ -36,11 +36,11 @@ hits ws ts = over (hits-after ws) [] ts
 -- the places of the code with one number
 unfoldable pub places-of : (j : ℕ) → List Hit → List ℕ
 places-of j [] = []
-places-of j (h ∷ hs) = cond (eqb (h .code) j) (h .place ∷ places-of j hs) (places-of j hs)
+places-of j (h ∷ hs) = cond (eqb (h .number) j) (h .place ∷ places-of j hs) (places-of j hs)
 
 -- how long a hit's code is, and how many bytes the text has up to the code's last one
 unfoldable pub hit-length : (ws : List (List ℕ)) → Hit → ℕ
-hit-length ws h = length (code ws (h .code - 1))
+hit-length ws h = length (code ws (h .number - 1))
 
 unfoldable pub hit-end : (ws : List (List ℕ)) → Hit → ℕ
 hit-end ws h = h .place + hit-length ws h

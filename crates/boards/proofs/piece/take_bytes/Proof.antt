@@ -7,42 +7,32 @@ use borrow.Author.Needs.{needs}
 use lib.ListN.{length}
 use Rattle.boards.specs.Tables.{tree, tables}
 use Rattle.boards.proofs.Prepared.{zeros}
-use Rattle.boards.proofs.Taking.{spots-free, spots-taken, pair-lists, Take-loop, loop-start, loop-bounds, loop-long, answer-done, answer-full}
+use Rattle.boards.proofs.Taking.{spots-free, spots-taken, front-lists, Take-loop, loop-start, loop-bounds, loop-long, answer-done, answer-full}
 use Rattle.boards.proofs.Taking.{turn-advancing, turn-needs, next-bounds, hits-needs, turn-taken}
 use Rattle.boards.proofs.piece.take_bytes.Statement.{statement}
 use Rattle.boards.proofs.piece.take_bytes.Tie as tie
 
 abbrev Inv-loop : tie.InvT-loop
-Inv-loop ls bs next forks keys heads links nearest shorter x piece a p first second starts longer count room g₀ i₀ k₀ b q g i k =
-    Take-loop ls bs (tree next forks keys heads) (tables links nearest shorter) x piece (pair-lists first second starts longer) a b p q g i k
+Inv-loop ls bs next forks keys heads links nearest shorter x piece a p words starts depth count room g₀ i₀ k₀ b q g i k =
+    Take-loop ls bs (tree next forks keys heads) (tables links nearest shorter) x piece (front-lists words starts depth) a b p q g i k
 
 abbrev μ-loop : tie.MeasureT-loop
-μ-loop ls bs next forks keys heads links nearest shorter x piece a p first second starts longer count room g₀ i₀ k₀ b q g i k = length piece - i
+μ-loop ls bs next forks keys heads links nearest shorter x piece a p words starts depth count room g₀ i₀ k₀ b q g i k = length piece - i
 
 -- the turn in which the next bytes were read
 abbrev turn : tie.After-advance Inv-loop μ-loop → tie.Then1 Inv-loop μ-loop
-turn c = c .before .before .before .before
+turn c = c .before .before .before
 
-slice-aggregate-pair-codes : tie.Need-slice-aggregate-pair-codes Inv-loop μ-loop
-slice-aggregate-pair-codes c = search needs
+slice-aggregate-put-fronts : tie.Need-slice-aggregate-put-fronts Inv-loop μ-loop
+slice-aggregate-put-fronts c = search needs
 
-slice-aggregate-pair-codes-2 : tie.Need-slice-aggregate-pair-codes-2 Inv-loop μ-loop
-slice-aggregate-pair-codes-2 c = search needs
+slice-aggregate-put-fronts-2 : tie.Need-slice-aggregate-put-fronts-2 Inv-loop μ-loop
+slice-aggregate-put-fronts-2 c = search needs
 
-slice-aggregate-pair-codes-3 : tie.Need-slice-aggregate-pair-codes-3 Inv-loop μ-loop
-slice-aggregate-pair-codes-3 c = search needs
-
-pair-codes-requires : tie.Need-pair-codes-requires Inv-loop μ-loop
-pair-codes-requires c κs =
-    let start = c .before .before .before .before .before .before .before .before .before .before .before .before .before .before .before in
-    record {
-      good = start .pre .0 .good;
-      first-none = zeros 256;
-      second-none = zeros 256;
-      first-long = refl;
-      second-long = refl;
-      starts-long = refl;
-    }
+put-fronts-requires : tie.Need-put-fronts-requires Inv-loop μ-loop
+put-fronts-requires c κs =
+    let start = c .before .before .before .before .before .before .before .before .before .before .before .before .before .before in
+    record { good = start .pre .0 .good; none = zeros 1024; words-long = refl; starts-long = refl }
 
 least-requires : tie.Need-least-requires Inv-loop μ-loop
 least-requires c κs = search needs
@@ -52,25 +42,22 @@ cast-g c = search needs
 
 loop-holds : tie.Need-loop-holds Inv-loop μ-loop
 loop-holds c =
-    let s = c .before .before .before .before .before in
-    let q = s .before .before .before .before .before .before .before .before .before .before .before .before .before .before .before .before .pre in
-    let bytes = s .before .before .before .before .before .before .shared-slice-known10 .given in
-    loop-start _ _ (record { boarded = q .0; ready = q .1; pairs = s .pair-codes .ensures; small = λ i. bytes i .fits })
+    let s = c .before .before .before .before in
+    let q = s .before .before .before .before .before .before .before .before .before .before .before .before .before .before .before .pre in
+    let bytes = s .before .before .before .before .before .shared-slice-known10 .given in
+    loop-start _ _ (record { boarded = q .0; ready = q .1; fronts = s .put-fronts .ensures; small = λ i. bytes i .fits })
 
 add-if1 : tie.Need-add-if1 Inv-loop μ-loop
 add-if1 c = let b = loop-bounds (c .before .loop .inv) in omega (arith, b .1, b .2, b .4)
 
 slice-aggregate-advance : tie.Need-slice-aggregate-advance Inv-loop μ-loop
-slice-aggregate-advance c = sym (c .before .before .before .loop .inv .lists .pairs .first-long)
+slice-aggregate-advance c = sym (c .before .before .before .loop .inv .lists .fronts .words-long)
 
 slice-aggregate-advance-2 : tie.Need-slice-aggregate-advance-2 Inv-loop μ-loop
-slice-aggregate-advance-2 c = sym (c .before .before .before .before .loop .inv .lists .pairs .second-long)
-
-slice-aggregate-advance-3 : tie.Need-slice-aggregate-advance-3 Inv-loop μ-loop
-slice-aggregate-advance-3 c = sym (c .before .before .before .before .before .loop .inv .lists .pairs .starts-long)
+slice-aggregate-advance-2 c = sym (c .before .before .before .before .loop .inv .lists .fronts .starts-long)
 
 advance-requires : tie.Need-advance-requires Inv-loop μ-loop
-advance-requires c κs = turn-needs (c .before .before .before .before .before .loop .inv) (c .before .before .before .before .loop-test .taken)
+advance-requires c κs = turn-needs (c .before .before .before .before .loop .inv) (c .before .before .before .loop-test .taken)
 
 cast-taken : tie.Need-cast-taken Inv-loop μ-loop
 cast-taken c =
@@ -121,20 +108,20 @@ loop-again c =
     let free = spots-free _ _ _ (turn q .before .before .before .before .least .ensures) (turn q .if1 .taken) in
     turn-taken v led free _ (w .before .before .before .wide .ensures .0) _ _ _ (w .write-hits .ensures)
 
+cast-t48 : tie.Need-cast-t48 Inv-loop μ-loop
+cast-t48 c = let b = loop-bounds (c .before .before .loop .inv) in omega (arith, b .3)
+
+cast-t49 : tie.Need-cast-t49 Inv-loop μ-loop
+cast-t49 c = let b = loop-bounds (c .before .before .loop .inv) in omega (arith, b .1)
+
+add-t50 : tie.Need-add-t50 Inv-loop μ-loop
+add-t50 c = let b = loop-bounds (c .before .before .before .loop .inv) in omega (arith, b .1)
+
+add-t51 : tie.Need-add-t51 Inv-loop μ-loop
+add-t51 c = let b = loop-bounds (c .before .before .before .before .loop .inv) in omega (arith, b .1, b .2)
+
 cast-t53 : tie.Need-cast-t53 Inv-loop μ-loop
-cast-t53 c = let b = loop-bounds (c .before .before .loop .inv) in omega (arith, b .3)
-
-cast-t54 : tie.Need-cast-t54 Inv-loop μ-loop
-cast-t54 c = let b = loop-bounds (c .before .before .loop .inv) in omega (arith, b .1)
-
-add-t55 : tie.Need-add-t55 Inv-loop μ-loop
-add-t55 c = let b = loop-bounds (c .before .before .before .loop .inv) in omega (arith, b .1)
-
-add-t56 : tie.Need-add-t56 Inv-loop μ-loop
-add-t56 c = let b = loop-bounds (c .before .before .before .before .loop .inv) in omega (arith, b .1, b .2)
-
-cast-t58 : tie.Need-cast-t58 Inv-loop μ-loop
-cast-t58 c = let b = loop-bounds (c .before .before .before .before .loop .inv) in omega (arith, b .1)
+cast-t53 c = let b = loop-bounds (c .before .before .before .before .loop .inv) in omega (arith, b .1)
 
 same-length : tie.Need-same-length Inv-loop μ-loop
 same-length c = loop-long (c .before .before .before .before .loop .inv) .0
@@ -163,17 +150,15 @@ take-bytes-spec =
     (tie.spec
     Inv-loop
     μ-loop
-    slice-aggregate-pair-codes
-    slice-aggregate-pair-codes-2
-    slice-aggregate-pair-codes-3
-    pair-codes-requires
+    slice-aggregate-put-fronts
+    slice-aggregate-put-fronts-2
+    put-fronts-requires
     least-requires
     cast-g
     loop-holds
     add-if1
     slice-aggregate-advance
     slice-aggregate-advance-2
-    slice-aggregate-advance-3
     advance-requires
     cast-taken
     add-taken
@@ -182,11 +167,11 @@ take-bytes-spec =
     write-hits-requires
     loop-less
     loop-again
+    cast-t48
+    cast-t49
+    add-t50
+    add-t51
     cast-t53
-    cast-t54
-    add-t55
-    add-t56
-    cast-t58
     same-length
     same-length-2
     returns)
