@@ -1,8 +1,8 @@
 /* The C side of crates/entries: preparing and feeding as the tests and the benchmark call them. `rt staticlib entries` makes the archive.
 
    A Rattle slice is a pointer and a number of elements. The structs are #[repr(C)] in Rattle (PreparedNumbers, FedNumbers, HitNumbers), so they are
-   laid out as C lays them out; the offsets are stated below. What is said of memory in finder.h holds here too. Other implementations of preparing
-   and feeding answer the same structs, so that one caller serves all. */
+   laid out as C lays them out; the offsets are stated below. Memory that is written to must not overlap any other that is lent; what else is said of
+   memory in finder.h holds here too. Other implementations of preparing and feeding answer the same structs, so that one caller serves all. */
 #ifndef ENTRIES_H
 #define ENTRIES_H
 

@@ -5,7 +5,7 @@
 
 #include "board_codes.h"
 
-/* Whether preparing refuses the codes with this number, in enough room and, if not with 3, in none. */
+/* Preparing refuses the codes with this number, whatever the room; where it would refuse nothing, too little room is 3. */
 static void expect_refusal(uint32_t number)
 {
     if (compare_prepare(BOARD_ROOM) != number || compare_prepare(sizeof board) != number)

@@ -154,7 +154,7 @@ static void try_generated(void)
     for (number = 0; number < GENERATED; number++) {
         size_t letters = all_letters[number % 6];
         seed_random(number);
-        generate_codes(1 + random_below(number % 3 == 0 ? 8 : MOST_CODES), letters, 1 + number / 6 % 2, longest[number % 7]);
+        generate_codes(1 + random_below(number % 3 == 0 ? 8 : MOST_CODES), letters, 1 + number / 6 % 5, 4 + longest[number % 7]);
         generate_text(150, letters, 1);
         run_every_size();
         try_states();
@@ -162,7 +162,7 @@ static void try_generated(void)
     end_group();
 }
 
-/* Most bytes of the text are none with which a code begins. In half of the boards no code has one byte only. */
+/* Most bytes of the text are none with which a code begins. A board's shortest code has 1 to 5 bytes or more. */
 static void try_rare(void)
 {
     unsigned number;
@@ -170,7 +170,7 @@ static void try_rare(void)
     begin_group("generated codes that are rare in their texts");
     for (number = 0; number < RARE; number++) {
         seed_random(3000 + number);
-        generate_codes(1 + random_below(number % 3 == 0 ? 5 : MOST_CODES), number % 5 == 4 ? 256 : 3 + number % 5, 1 + number % 2, 4 + number % 9);
+        generate_codes(1 + random_below(number % 3 == 0 ? 5 : MOST_CODES), number % 5 == 4 ? 256 : 3 + number % 5, 1 + number / 5 % 5, 5 + number % 9);
         generate_text(400, number % 4 == 0 ? 8 : 256, 60);
         run_every_size();
     }
@@ -185,7 +185,7 @@ static void try_every_count(void)
     begin_group("boards of 1 to 64 codes");
     for (codes = 1; codes <= MOST_CODES; codes++) {
         seed_random(1000 + codes);
-        generate_codes(codes, 4, 1 + codes % 2, 10);
+        generate_codes(codes, 4, 1 + codes % 5, 10);
         if (count != codes)
             differ("the generator finds too few codes");
         generate_text(200, 4, 1);
