@@ -245,7 +245,8 @@ pub fronts-are : {ls bs words next starts : List ℕ} {depth : ℕ} → Good ls 
 fronts-are {ls} {bs} {words} {next} {starts} {depth} g e p f =
     record {
       each = λ q c j (h : q < depth) (l : c < 256) m. rw (f .before (256 * q + c) (omega arith)) (p .each q c j h l m);
-      all = λ q c j (h : depth ≤ q) (k : q < 4) (l : c < 256) m. f .all (256 * q + c) (63 - j) (omega arith) (omega (arith, f .long, p .words-long)) (omega arith);
+      all = λ q c j (h : depth ≤ q) (k : q < 4) (l : c < 256) m.
+          f .all (256 * q + c) (63 - j) (omega arith) (omega (arith, f .long, p .words-long)) (omega arith);
       some = e .some (g .filled);
       most = e .few;
       within = λ j (h : j < length (cut ls bs)).

@@ -1,7 +1,7 @@
-// The tree of the codes' starts (a trie): which start follows another by a byte. Each code in turn is followed as far as the codes before it go, and branches off
-// there. The starts within the rest of it follow one another in the code itself: `next` has the byte behind each, 256 at a code's end. Code number j, from 0,
-// branches off at the state g where bit j of `forks[g]` is set, by the byte c where bit j of `keys[c]` is, and to the state `heads[j]`. So a
-// child is found by two looks, however many codes branch off at one state.
+// The tree of the codes' starts (a trie): which start follows another by a byte. Each code in turn is followed as far as the codes before it go, and branches
+// off there. The starts within the rest of it follow one another in the code itself: `next` has the byte behind each, 256 at a code's end. Code number j, from
+// 0, branches off at the state g where bit j of `forks[g]` is set, by the byte c where bit j of `keys[c]` is, and to the state `heads[j]`. So a child is found
+// by two looks, however many codes branch off at one state.
 ghost use mathlib.Core.Path.{_≡_};
 ghost use mathlib.Core.Bool.{not};
 ghost use Prim.Native.Nat.{_+_, _≤_, _<_};

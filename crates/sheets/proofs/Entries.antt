@@ -96,7 +96,8 @@ room-asked w k good =
 pub made-long : {w a b : List ℕ} {n : ℕ} → Sheet-made w n a b → n ≤ length b
 made-long {w} {a} m = omega (arith, m .size-is, ap length (m .front), in-front-long (sheet w) a)
 
-pub fresh : {w a area : List ℕ} {n : ℕ} (bs : List ℕ) → Sheet-made w n a area → (r : Bool) → r ≡ leb n (length area) && same (take n bs) (take n area) → Freshly bs w r
+pub fresh : {w a area : List ℕ} {n : ℕ} (bs : List ℕ) → Sheet-made w n a area → (r : Bool) → r ≡ leb n (length area) && same (take n bs) (take n area) →
+    Freshly bs w r
 unfolding in-front
 fresh {w} {a} {area} {n} bs m r e =
     e ∙ rw (le-leb n (length area) (made-long m), m .size-is, m .front, take-append-seam (sheet w) (drop (length (sheet w)) a)) refl

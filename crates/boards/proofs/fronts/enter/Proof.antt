@@ -8,7 +8,8 @@ use Rattle.boards.proofs.fronts.enter.Statement.{statement}
 use Rattle.boards.proofs.fronts.enter.Tie as tie
 
 -- the highest bit in common
-highest : (c : tie.After-shared-slice-known4) → let a = c .before .before .before .before .before .before .args in Top (common-at (a .words .now) (a .piece .now) (a .i)) (c .before .top .result)
+highest : (c : tie.After-shared-slice-known4) →
+    let a = c .before .before .before .before .before .before .args in Top (common-at (a .words .now) (a .piece .now) (a .i)) (c .before .top .result)
 highest c = rw (c .before .before .common .ensures) at (c .before .top .ensures)
 
 common-requires : tie.Need-common-requires

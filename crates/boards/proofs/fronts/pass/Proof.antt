@@ -42,7 +42,8 @@ loop-less c = let p = c .pass-pairs2 .ensures in omega (arith, p .onward, p .ins
 loop-again : tie.Need-loop-again Inv-loop μ-loop
 loop-again c =
     let e = c .before in
-    passed-on (passed-one (e .before .before .before .loop .inv) _ refl (omega arith) (sym (e .before .common .ensures) ∙ e .if1 .left)) (c .pass-pairs2 .ensures) _ refl
+    let none = sym (e .before .common .ensures) ∙ e .if1 .left in
+    passed-on (passed-one (e .before .before .before .loop .inv) _ refl (omega arith) none) (c .pass-pairs2 .ensures) _ refl
 
 returns-2 : tie.Need-returns-2 Inv-loop μ-loop
 returns-2 c = record { passed = c .before .loop .inv; stops = λ h. absurd (omega arith) }

@@ -26,7 +26,8 @@ returns : tie.Need-returns
 returns c =
     let put = c .before .before .before .before .before .before .before .before in
     let sized = put .before .before .before in
-    fronts-are (sized .before .before .before .before .before .pre .good) (sized .shortest .ensures) (put .put-codes .ensures) (c .before .before .fill-from .ensures)
+    let good = sized .before .before .before .before .before .pre .good in
+    fronts-are good (sized .shortest .ensures) (put .put-codes .ensures) (c .before .before .fill-from .ensures)
 
 pub put-fronts-spec : {M : Type 1} → statement M
 put-fronts-spec =
