@@ -4,7 +4,7 @@
 
 #include "boardpeers.h"
 
-enum { LARGEST = 1048576 }; /* bytes of the largest piece, and of the longest text */
+enum { LARGEST = 4194304 }; /* bytes of the longest text */
 
 extern struct codes codes; /* of the job that is measured */
 

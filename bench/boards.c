@@ -7,9 +7,15 @@
 #include "figures.h"
 #include "process.h"
 
-enum { TEXT = 200000 };
+/* Bytes of a text. A plan is so long that a run does not find the processor's predictions still made for it by the run before. */
+enum { PLAN = LARGEST, OTHER = 200000 };
 
-static const size_t pieces[] = {4096, 65536, LARGEST};
+static size_t text_size(const struct board_job *j)
+{
+    return j->plan ? PLAN : OTHER;
+}
+
+static const size_t pieces[] = {4096, 65536, 1048576};
 
 enum { PIECES = sizeof pieces / sizeof *pieces };
 
@@ -21,7 +27,7 @@ struct times {
 };
 
 /* In each round Rattle runs before every peer: what slows the machine for longer than two runs slows both, and does not reach their ratio. */
-static void measure(void *const *built, int rounds, struct times *t)
+static void measure(void *const *built, size_t size, int rounds, struct times *t)
 {
     double *ratios = malloc((size_t)rounds * PEERS * sizeof *ratios);
 
@@ -34,7 +40,7 @@ static void measure(void *const *built, int rounds, struct times *t)
         for (int p = 0; p < PEERS; p++) {
             if (!peers[p].build)
                 continue;
-            double ours = time_pieces(TEXT);
+            double ours = time_pieces(size);
             double other = time_peer(&peers[p], built[p]);
             t->rattle = fmin(t->rattle, ours);
             t->peer[p] = fmin(t->peer[p], other);
@@ -75,17 +81,18 @@ static void print_peers(void)
 /* Answers the ratio of Rattle's speed to the faster kind of the crate. */
 static double print_feeding(const struct board_job *j, int rounds)
 {
+    const size_t size = text_size(j);
     void *built[PEERS] = {0};
     struct times t;
 
-    set_up_board(j, TEXT);
-    size_t hits = feed_pieces(TEXT);
+    set_up_board(j, size);
+    size_t hits = feed_pieces(size);
     for (int p = 0; p < PEERS; p++)
         if (peers[p].build) {
             built[p] = peers[p].build(&codes);
             compare_hits(&peers[p], built[p], hits);
         }
-    measure(built, rounds, &t);
+    measure(built, size, rounds, &t);
     for (int p = 0; p < PEERS; p++)
         if (built[p])
             peers[p].drop(built[p]);
@@ -93,9 +100,9 @@ static double print_feeding(const struct board_job *j, int rounds)
 
     print_job(j);
     printf(" %8zu |", hits);
-    print_number(t.rattle / TEXT * 1e9, 7, 2);
+    print_number(t.rattle / (double)size * 1e9, 7, 2);
     for (int p = 0; p < PEERS; p++)
-        print_number(t.peer[p] / TEXT * 1e9, 13, 2);
+        print_number(t.peer[p] / (double)size * 1e9, 13, 2);
     print_number(to_crate, 12, 2);
     print_number(t.ratio[SEPARATE], 15, 2);
     printf("\n");
@@ -116,8 +123,9 @@ static void print_feedings(int rounds)
         if (isfinite(ratio))
             add_ratio(&to_crate[j->plan], ratio);
     }
-    printf("\nNanoseconds of processor time for a byte of a text of %d bytes, fed in one call; best of %d rounds. Ratios of speeds: medians of the rounds.\n",
-           TEXT, rounds);
+    printf("\nNanoseconds of processor time for a byte of a plan of %d bytes, or of another text of %d, fed in one call; best of %d rounds. Ratios of speeds: "
+           "medians of the rounds.\n",
+           PLAN, OTHER, rounds);
     if (to_crate[0].count > 0)
         printf("Rattle/crate: geometric mean %.2f and smallest %.2f in plans, %.2f and %.2f in the other texts.\n", mean_ratio(&to_crate[1]), to_crate[1].smallest,
                mean_ratio(&to_crate[0]), to_crate[0].smallest);
@@ -132,7 +140,7 @@ static void print_preparings(int rounds)
     for (const struct board_job *j = board_jobs; j->name; j++) {
         double ours = HUGE_VAL, others[PEERS];
 
-        set_up_board(j, TEXT);
+        set_up_board(j, OTHER);
         for (int p = 0; p < PEERS; p++)
             others[p] = HUGE_VAL;
         for (int r = 0; r < rounds; r++) {
@@ -163,7 +171,7 @@ static void print_pieces(int rounds)
 
         if (!j->plan || j->count < 30)
             continue;
-        set_up_board(j, LARGEST);
+        set_up_board(j, PLAN);
         for (int k = 0; k < PIECES; k++)
             best[k] = HUGE_VAL;
         for (int r = 0; r < rounds; r++) {
@@ -174,12 +182,12 @@ static void print_pieces(int rounds)
         print_job(j);
         print_number(test * 1e6, 5, 1);
         for (int k = 0; k < PIECES; k++)
-            printf(" %7.2f | %4.1f %% |", best[k] / LARGEST * 1e9, 100 * test * (LARGEST / (double)pieces[k]) / best[k]);
+            printf(" %7.2f | %4.1f %% |", best[k] / PLAN * 1e9, 100 * test * (PLAN / (double)pieces[k]) / best[k]);
         printf("\n");
     }
     printf("\nMicroseconds of the test of the board, which is a call with an empty piece; nanoseconds for a byte of a text of %d bytes, fed in pieces of so "
            "many bytes, and the test's share of each call; best of %d rounds.\n",
-           LARGEST, rounds);
+           PLAN, rounds);
 }
 
 int main(int argc, char **argv)

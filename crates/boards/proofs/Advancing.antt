@@ -27,8 +27,8 @@ use Rattle.boards.specs.Fronts.{Fronts, common-at, Passed, Stopped, Ente
 use Rattle.boards.specs.Tables.{part, Tree-lists, On-links, Told-links}
 use Rattle.boards.specs.Feed.{stepped, reported, with-byte, feeder, feed}
 use Rattle.boards.specs.Inside.{Advancing, Advanced}
-use Rattle.boards.proofs.Cuts.{part-length}
-use Rattle.boards.proofs.FirstBytes.{part-more, part-first, common-none, passed-none}
+use Rattle.boards.proofs.Cuts.{part-length, part-more, part-first}
+use Rattle.boards.proofs.FirstBytes.{common-none, passed-none}
 use Rattle.boards.proofs.Watching.{stepped-from}
 
 -- WHAT TELLS NOTHING: the bytes from one index on to another lead from state g to state h and have no hits
@@ -86,7 +86,6 @@ module _ {ws : List (List ℕ)} {piece : List ℕ} where
       record {
         onward = omega (arith, q .onward, a .onward);
         within = a .within;
-        known-is = a .known-is;
         state-is = a .state-is;
         short = omega (arith, a .short, sum);
         reads = λ x k e r.
@@ -111,7 +110,6 @@ module _ {ws : List (List ℕ)} {piece : List ℕ} where
       record {
         onward = omega arith;
         within = omega arith;
-        known-is = rw at (reached-known ws us);
         state-is = rw at (sym e);
         short = rw at (omega (arith, reached-short ws us, length-snoc u c));
         reads = λ x n f l.
@@ -168,7 +166,7 @@ module _ (ws : List (List ℕ)) (piece : List ℕ) (depth : ℕ) (within : (j : 
         ap (λ (n : ℕ). state ws (after i n)) one-more ∙ ap (state ws) (reached-self ws (part i depth piece) k) ∙ sym e in
         rw (on, to) at (read-after u i less (omega arith) (silent-front i less (omega arith) (omega arith)))
 
-    -- where no code begins, the first of them is as good as not read
+    -- where no code begins, feeding goes on behind the first of them as if it led to 0
     silent-one : (i : ℕ) → i + depth ≤ length piece → known ws (part i depth piece) ≡ false → Silent ws piece 0 i 0 (i + 1)
     silent-one i inside none =
         let first : part i depth piece ≡ getD piece i 0 ∷ part (i + 1) less piece =
@@ -185,17 +183,17 @@ module _ (ws : List (List ℕ)) (piece : List ℕ) (depth : ℕ) (within : (j : 
 
 -- A STRETCH in state 0 at which no code begins
 module _ {ws : List (List ℕ)} {words starts : List ℕ} {depth : ℕ} (f : Fronts ws depth words starts) (piece : List ℕ)
-    (small : (i : ℕ) → i < length piece → getD piece i 0 < 256) where
+    (bytes : (i : ℕ) → getD piece i 0 < 256) where
   stretch-then : (d i j : ℕ) {u : List ℕ} {h m : ℕ} → j ≡ i + d → Passed words piece i j → Advanced ws u piece 0 j h m → Advanced ws u piece 0 i h m
   stretch-then zero i j e q a = let at : j ≡ i = omega arith in rw at at a
   stretch-then (suc d) i j e q a =
       let none = q .none i (omega arith) (omega arith) in
       silent-then
-      (silent-one ws piece depth (f .within) (f .some) i (omega (arith, f .most, none .0)) (common-none f piece i (none .0) small (none .1))) (omega arith)
+      (silent-one ws piece depth (f .within) (f .some) i (omega (arith, f .most, none .0)) (common-none f piece i (none .0) bytes (none .1))) (omega arith)
       (stretch-then d (i + 1) j (omega arith)
       (record { onward = omega arith; inside = q .inside; none = λ k lo hi. q .none k (omega arith) hi }) a)
 
--- WHERE THE NEXT BYTES ARE: at i or, from state 0, at the first index where a code begins
+-- WHERE THE NEXT BYTES ARE: at i or, from state 0, at the first index where a code begins or fewer than four bytes are left
 pub record At (words piece : List ℕ) (g i p : ℕ) : Type 0 where
   passed : Passed words piece i p
   moved : i ≢ p → g ≡ 0

@@ -3,9 +3,10 @@ use mathlib.Core.Path.{_≡_, refl, sym, ap, _∙_}
 use mathlib.Core.Bool.{true}
 use mathlib.Core.List.{List, [], _∷_, _++_, map, append-nil, append-assoc}
 use Prim.Native.Nat.{ℕ, zero, suc, _+_, _≤_, _<_}
+use native.Mathlib.Numerals.{add-one}
 use native.Mathlib.Omega.{arith}
 use lib.ListN.{length, getD, take, drop, length-drop, take-append-drop}
-use lib.Seq.{getD-take, getD-drop, drop-drop, length-take-le}
+use lib.Seq.{take-suc, drop-cons, getD-take, getD-drop, drop-drop, length-take-le}
 use Rattle.automaton.specs.Costs.{sum}
 use Rattle.starts.specs.Starts.{code, total, offset, twice}
 use Rattle.starts.proofs.Codes.{twice-more}
@@ -20,6 +21,16 @@ part-length s l bs h = length-take-le l (drop s bs) (omega (arith, length-drop s
 pub part-at : (s l : ℕ) (bs : List ℕ) (i : ℕ) → i < l → getD (part s l bs) i 0 ≡ getD bs (s + i) 0
 unfolding part
 part-at s l bs i h = getD-take l (drop s bs) i 0 h ∙ getD-drop s bs i 0
+
+-- one byte more, and the first of them
+pub part-more : (i n : ℕ) (bs : List ℕ) → i + n < length bs → part i (suc n) bs ≡ part i n bs ++ (getD bs (i + n) 0 ∷ [])
+unfolding part
+part-more i n bs h =
+    take-suc (drop i bs) n 0 (omega (arith, length-drop i bs)) ∙ ap (λ (c : ℕ). take n (drop i bs) ++ (c ∷ [])) (getD-drop i bs n 0)
+
+pub part-first : (i n : ℕ) (bs : List ℕ) → i < length bs → part i (suc n) bs ≡ getD bs i 0 ∷ part (i + 1) n bs
+unfolding part
+part-first i n bs h = rw (add-one i, drop-cons bs i 0 h)
 
 -- THE CODES: how many, and the bytes of all
 pub cut-length : (ls bs : List ℕ) → length (cut ls bs) ≡ length ls

@@ -2,31 +2,30 @@
 -- code begins, passing over such bytes, and the state of the first bytes of a code. Assumes nothing.
 use mathlib.Core.Path.{_≡_, refl, sym, ap, _∙_}
 use mathlib.Core.Bool.{Bool, true, false, _&&_, _||_, or-false, and-false}
-use mathlib.Core.List.{List, [], _∷_, _++_}
+use mathlib.Core.List.{List}
 use mathlib.Core.Logic.{_≢_}
-use Prim.Native.Nat.{ℕ, zero, suc, _+_, _*_, _-_, _≤_, _<_}
-use native.Mathlib.Nat.{le-refl}
-use native.Mathlib.Numerals.{add-one}
+use Prim.Native.Nat.{ℕ, zero, suc, _+_, _*_, _-_, _≤_, _<_, min}
+use native.Mathlib.Nat.{le-refl, add-zero}
 use native.Mathlib.Omega.{arith}
-use lib.Bits.{bitAnd, and-zero-l}
+use lib.Bits.{bitAnd, bitOr, and-zero-l}
 use lib.Dec.{ltb, eqb}
-use lib.ListN.{length, getD, take, drop, set, length-set, length-take, length-drop}
-use lib.Seq.{getD-set-same, getD-set-other, getD-take, getD-drop, take-suc, drop-cons}
+use lib.ListN.{length, getD, take, set, length-set, length-take}
+use lib.Seq.{getD-set-same, getD-set-other, getD-take}
 use borrow.Author.Tests.{ltb-true, ltb-false, lt-ltb, le-ltb, eqb-true, eq-eqb, ne-eqb}
 use Rattle.words.specs.Words.{Every, byte}
 use Rattle.words.proofs.Tests.{by-test, by-le, by-eq, never-both, fails, and-left, and-right}
 use Rattle.words.proofs.Lists.{every-at}
 use Rattle.bits.specs.Bits.{holds, Top, With-bit}
-use Rattle.bits.proofs.Bits.{holds-and, holds-zero, holds-all}
+use Rattle.bits.proofs.Bits.{or-zeros, holds-and, holds-zero, holds-all}
 use Rattle.starts.specs.Starts.{code, offset, state, is-start, known}
 use Rattle.starts.proofs.States.{start-is, is-start-nil, start-longer, known-at, known-first, code-take, state-first}
 use Rattle.starts.proofs.States.{offset-zero, offset-more, offset-within, offset-fits}
 use Rattle.boards.specs.Board.{cut}
 use Rattle.boards.specs.Tables.{part, Good}
 use Rattle.boards.specs.Fronts.{Shortest, On-put, Code-put, On-fronts, All-put, Filled-from, Fronts, word-at, pair-at, common-at, Passed}
-use Rattle.boards.proofs.Cuts.{part-length, part-at, cut-length, cut-total, cut-code, cut-code-length}
+use Rattle.boards.proofs.Cuts.{part-length, part-at, part-more, cut-length, cut-total, cut-code, cut-code-length}
 
--- THE SHORTEST of the first i lengths
+-- so many first bytes the first i codes have
 pub record Shortest-of (ls : List ℕ) (depth i : ℕ) : Type 0 where
   pub few : depth ≤ 4
   pub within : (j : ℕ) → j < i → j < length ls → depth ≤ getD ls j 0
@@ -35,32 +34,22 @@ pub record Shortest-of (ls : List ℕ) (depth i : ℕ) : Type 0 where
 pub shortest-none : (ls : List ℕ) → Shortest-of ls 4 0
 shortest-none ls = record { few = omega arith; within = λ j (h : j < 0). absurd (omega arith); some = λ e. omega arith }
 
--- the next one is no shorter, or it is the shortest now
-module _ {ls : List ℕ} {depth i : ℕ} (v : Shortest-of ls depth i) (h : i < length ls) (e : ℕ) where
-  pub shortest-kept : e ≡ depth → e ≤ getD ls i 0 → Shortest-of ls e (i + 1)
-  shortest-kept is l =
-      record {
-        few = omega (arith, v .few);
-        within = λ j (k : j < i + 1) m.
-            by-eq j i (λ (same : j ≡ i). rw same l) (λ (other : j ≢ i). omega (arith, v .within j (omega arith) m));
-        some = λ all. rw is (v .some all);
-      }
-
-  pub shortest-new : e ≡ getD ls i 0 → e < depth → Shortest-of ls e (i + 1)
-  shortest-new is l =
-      record {
-        few = omega (arith, v .few);
-        within = λ j (k : j < i + 1) m.
-            by-eq j i
-            (λ (same : j ≡ i). rw (same, is) (le-refl (getD ls i 0)))
-            (λ (other : j ≢ i). omega (arith, v .within j (omega arith) m));
-        some = λ all. rw is (every-at (λ l. 1 ≤ l) ls i all h);
-      }
+-- with the next one
+pub shortest-next : {ls : List ℕ} {depth i : ℕ} → Shortest-of ls depth i → i < length ls → (e : ℕ) → e ≡ min depth (getD ls i 0) → Shortest-of ls e (i + 1)
+shortest-next {ls} {depth} {i} v h e is =
+    record {
+      few = omega (arith, v .few);
+      within = λ j (k : j < i + 1) m.
+          by-eq j i
+          (λ (same : j ≡ i). let at : getD ls j 0 ≡ getD ls i 0 = ap (λ (n : ℕ). getD ls n 0) same in omega arith)
+          (λ (other : j ≢ i). omega (arith, v .within j (omega arith) m));
+      some = λ all. omega (arith, v .some all, every-at (λ l. 1 ≤ l) ls i all h);
+    }
 
 pub shortest-all : {ls : List ℕ} {depth i : ℕ} → Shortest-of ls depth i → length ls ≤ i → Shortest ls depth
 shortest-all v l = record { few = v .few; within = λ j (h : j < _). v .within j (omega arith) h; some = v .some }
 
--- one number more is below
+-- below j + 1 is what is below j, but for j itself
 ltb-other : (q j : ℕ) → q ≢ j → ltb q (j + 1) ≡ ltb q j
 ltb-other q j n =
     by-test (ltb q j)
@@ -244,18 +233,21 @@ pub fronts-are : {ls bs words next starts : List ℕ} {depth : ℕ} → Good ls 
     Filled-from (256 * depth) words next → Fronts (cut ls bs) depth next starts
 fronts-are {ls} {bs} {words} {next} {starts} {depth} g e p f =
     record {
-      each = λ q c j (h : q < depth) (l : c < 256) m. rw (f .before (256 * q + c) (omega arith)) (p .each q c j h l m);
+      put =
+          record {
+            each = λ q c j (h : q < depth) (l : c < 256) m. rw (f .before (256 * q + c) (omega arith)) (p .each q c j h l m);
+            offsets = p .offsets;
+            words-long = f .long ∙ p .words-long;
+            starts-long = p .starts-long;
+          };
       all = λ q c j (h : depth ≤ q) (k : q < 4) (l : c < 256) m.
           f .all (256 * q + c) (63 - j) (omega arith) (omega (arith, f .long, p .words-long)) (omega arith);
       some = e .some (g .filled);
       most = e .few;
       within = λ j (h : j < length (cut ls bs)).
           let below : j < length ls = omega (arith, cut-length ls bs) in omega (arith, code-long g j below, e .within j below);
-      offsets = p .offsets;
       codes-few = omega (arith, cut-length ls bs, g .codes);
       few = omega (arith, cut-total ls bs (omega (arith, g .sums)), g .sums, g .bytes);
-      words-long = f .long ∙ p .words-long;
-      starts-long = p .starts-long;
     }
 
 -- THE FOUR ROWS
@@ -265,6 +257,15 @@ by-four P a b c d (suc zero) h = b
 by-four P a b c d (suc (suc zero)) h = c
 by-four P a b c d (suc (suc (suc zero))) h = d
 by-four P a b c d (suc (suc (suc (suc q)))) h = absurd (omega arith)
+
+-- numbers of four indexes that are 0 together
+pub four-none : (f : ℕ → ℕ) (i a b c d : ℕ) → a ≡ f i → b ≡ f (i + 1) → c ≡ f (i + 2) → d ≡ f (i + 3) → bitOr (bitOr a b) (bitOr c d) ≡ 0 →
+    (q : ℕ) → q < 4 → f (i + q) ≡ 0
+four-none f i a b c d u v x y e =
+    let all = or-zeros (bitOr a b) (bitOr c d) e in
+    let front = or-zeros a b (all .0) in
+    let back = or-zeros c d (all .1) in
+    by-four (λ q. f (i + q) ≡ 0) (rw (add-zero i) (sym u ∙ front .0)) (sym v ∙ front .1) (sym x ∙ back .0) (sym y ∙ back .1)
 
 module _ (words piece : List ℕ) (i : ℕ) where
   abbrev at : (q : ℕ) → ℕ
@@ -294,21 +295,10 @@ module _ (words piece : List ℕ) (i : ℕ) where
   unfolding common-at
   pair-none e = rw e (and-zero-l (bitAnd (at 2) (at 3)))
 
--- the first bytes of a piece from an index on, one more
-pub part-more : (i n : ℕ) (piece : List ℕ) → i + n < length piece → part i (suc n) piece ≡ part i n piece ++ (getD piece (i + n) 0 ∷ [])
-unfolding part
-part-more i n piece h =
-    take-suc (drop i piece) n 0 (omega (arith, length-drop i piece)) ∙ ap (λ (c : ℕ). take n (drop i piece) ++ (c ∷ [])) (getD-drop i piece n 0)
-
--- and the first of them
-pub part-first : (i n : ℕ) (piece : List ℕ) → i < length piece → part i (suc n) piece ≡ getD piece i 0 ∷ part (i + 1) n piece
-unfolding part
-part-first i n piece h = rw (add-one i, drop-cons piece i 0 h)
-
 -- A CODE THAT BEGINS at an index has its bit in common there, and no other code has
 module _ {ws : List (List ℕ)} {words starts : List ℕ} {depth : ℕ} (f : Fronts ws depth words starts) (piece : List ℕ) (i : ℕ)
-    (inside : i + 3 < length piece) (small : (j : ℕ) → j < length piece → getD piece j 0 < 256) where
-  pub front-long : length (part i depth piece) ≡ depth
+    (inside : i + 3 < length piece) (bytes : (j : ℕ) → getD piece j 0 < 256) where
+  front-long : length (part i depth piece) ≡ depth
   front-long = part-length i depth piece (omega (arith, f .most))
 
   begins-held : (j : ℕ) → j < length ws → is-start (part i depth piece) (code ws j) ≡ true → holds (common-at words piece i) (63 - j) ≡ true
@@ -319,11 +309,11 @@ module _ {ws : List (List ℕ)} {words starts : List ℕ} {depth : ℕ} (f : Fro
       common-held words piece i (63 - j)
       (λ q (l : q < 4).
       by-le depth q
-      (λ (over : depth ≤ q). f .all q (getD piece (i + q) 0) j over l (small (i + q) (omega arith)) (omega (arith, f .codes-few)))
+      (λ (over : depth ≤ q). f .all q (getD piece (i + q) 0) j over l (bytes (i + q)) (omega (arith, f .codes-few)))
       (λ (under : q < depth).
       let here : byte w q ≡ getD piece (i + q) 0 =
       sym (getD-take depth w q 0 under) ∙ ap (λ (u : List ℕ). getD u q 0) same ∙ part-at i depth piece q under in
-      f .each q (getD piece (i + q) 0) j under (small (i + q) (omega arith)) (omega (arith, f .codes-few))
+      f .put .each q (getD piece (i + q) 0) j under (bytes (i + q)) (omega (arith, f .codes-few))
       ∙ rw (lt-ltb j (length ws) h, eq-eqb (byte w q) (getD piece (i + q) 0) here)))
 
   module _ (j : ℕ) (few : j < 64) (e : holds (common-at words piece i) (63 - j) ≡ true) where
@@ -332,7 +322,7 @@ module _ {ws : List (List ℕ)} {words starts : List ℕ} {depth : ℕ} (f : Fro
     row-held q h =
         let c = getD piece (i + q) 0 in
         let both : ltb j (length ws) && eqb (byte (code ws j) q) c ≡ true =
-        sym (f .each q c j h (small (i + q) (omega (arith, f .most))) few) ∙ held-common words piece i (63 - j) e q (omega (arith, f .most)) in (
+        sym (f .put .each q c j h (bytes (i + q)) few) ∙ held-common words piece i (63 - j) e q (omega (arith, f .most)) in (
           ltb-true j (length ws) (and-left (ltb j (length ws)) (eqb (byte (code ws j) q) c) both),
           eqb-true (byte (code ws j) q) c (and-right (ltb j (length ws)) (eqb (byte (code ws j) q) c) both),
         )
@@ -382,7 +372,7 @@ module _ {ws : List (List ℕ)} {words starts : List ℕ} {depth : ℕ} (f : Fro
 
     -- where it begins, and the state
     pub enter-room : getD starts (63 - t) 0 ≤ 2000
-    enter-room = omega (arith, f .offsets (63 - t) first-below, offset-within ws (63 - t), f .few)
+    enter-room = omega (arith, f .put .offsets (63 - t) first-below, offset-within ws (63 - t), f .few)
 
     pub enter-state : (known ws (part i depth piece) ≡ true) × (getD starts (63 - t) 0 + depth ≡ state ws (part i depth piece))
     enter-state = (
@@ -390,12 +380,12 @@ module _ {ws : List (List ℕ)} {words starts : List ℕ} {depth : ℕ} (f : Fro
       omega (
         arith,
         front-long,
-        f .offsets (63 - t) first-below,
+        f .put .offsets (63 - t) first-below,
         state-first ws (63 - t) (part i depth piece) first-below first-has none-earlier,
       ),
     )
 
--- PASSING: from where it begins, over one byte where four words have nothing in common, and further from where it came to
+-- PASSING: from where it begins, and over one byte at which no code begins
 pub passed-none : (words piece : List ℕ) (from : ℕ) → from < length piece → Passed words piece from from
 passed-none ws cs from h = record { onward = le-refl from; inside = h; none = λ i (l : from ≤ i) (m : i < from). absurd (omega arith) }
 
@@ -411,16 +401,15 @@ passed-one {from = from} {i} v k e h n =
           (λ (other : q ≢ i). v .none q l (omega arith));
     }
 
-pub passed-on : {words piece : List ℕ} {from i to : ℕ} → Passed words piece from i → Passed words piece i to → (k : ℕ) → k ≡ to →
-    Passed words piece from k
-passed-on {piece = piece} {from} {i} {to} v w k e =
+-- over four, where none begins
+pub passed-four : {words piece : List ℕ} {from i : ℕ} → Passed words piece from i → (k : ℕ) → k ≡ i + 4 → i + 6 < length piece →
+    ((q : ℕ) → q < 4 → common-at words piece (i + q) ≡ 0) → Passed words piece from k
+passed-four {words} {piece} {from} {i} v k e h n =
     record {
-      onward = omega (arith, v .onward, w .onward);
-      inside = omega (arith, w .inside);
-      none = λ q (l : from ≤ q) (m : q < k). by-le i q (λ (g : i ≤ q). w .none q g (omega arith)) (λ (g : q < i). v .none q l g);
+      onward = omega (arith, v .onward);
+      inside = omega arith;
+      none = λ q (l : from ≤ q) (m : q < k).
+          by-le i q
+          (λ (g : i ≤ q). let at : i + (q - i) ≡ q = omega arith in (omega arith, rw at at (n (q - i) (omega arith))))
+          (λ (g : q < i). v .none q l g);
     }
-
--- over one whose first two words have nothing in common
-pub passed-pair : {words piece : List ℕ} {from i : ℕ} → Passed words piece from i → (k : ℕ) → k ≡ i + 1 → i + 3 < length piece → (m : ℕ) →
-    m ≡ pair-at words piece i → m ≡ 0 → Passed words piece from k
-passed-pair {words} {piece} {from} {i} v k e h m p z = passed-one v k e h (pair-none words piece i (sym p ∙ z))

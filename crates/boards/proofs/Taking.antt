@@ -54,7 +54,7 @@ pub record Feeds-from (ls bs : List ℕ) (t : Tree-lists) (l : Link-lists) (x : 
   pub boarded : Boarded ls bs t l
   pub ready : Ready (cut ls bs) x (length piece)
   pub fronts : Fronts (cut ls bs) (f .depth) (f .words) (f .starts)
-  pub small : (i : ℕ) → getD piece i 0 < 256
+  pub bytes : (i : ℕ) → getD piece i 0 < 256
 
 -- a watch i bytes and k hits further on, in state g
 abbrev pub further : Watch → (g i k : ℕ) → Watch
@@ -145,14 +145,14 @@ module _ {ls bs : List ℕ} {t : Tree-lists} {l : Link-lists} {x : Watch} {piece
         known-is = start-is-known ws g;
         state-is = v .fits .state-is;
         inside = inside;
-        bytes = λ j n. v .lists .small j;
+        bytes = v .lists .bytes;
       }
 
   pub turn-needs : i < length piece → On-advance t (l .links) (f .words) (f .starts) (f .depth) g piece i
   turn-needs inside =
       record { ws = ws; u = start ws g; advancing = turn-advancing inside }
 
-  -- and that they lead to state h behind index j
+  -- and that they lead to state h, up to index j
   module _ {h j : ℕ} (led : Advanced ws (start ws g) piece g i h j) where
     next-start : length (start ws h) ≤ x .taken + j
     next-start = omega (arith, led .short, v .fits .reached, led .onward)
@@ -160,7 +160,7 @@ module _ {ls bs : List ℕ} {t : Tree-lists} {l : Link-lists} {x : Watch} {piece
     pub next-bounds : (h < length (l .nearest)) × (i < j) × (j ≤ length piece)
     next-bounds =
         let b = v .lists .boarded in (
-          omega (arith, led .state-is, state-within ws (start ws h) (led .known-is), b .is-tree .few, b .linked .blank .nearest-long),
+          omega (arith, led .state-is, state-within ws (start ws h) (start-is-known ws h), b .is-tree .few, b .linked .blank .nearest-long),
           led .onward,
           led .within,
         )
@@ -178,7 +178,7 @@ module _ {ls bs : List ℕ} {t : Tree-lists} {l : Link-lists} {x : Watch} {piece
             shorts-long = omega (arith, good .codes, all .blank .shorter-long);
             codes-few = omega (arith, good .codes);
             filled = none-empty ws (λ i n. let f = v .lists .fronts in omega (arith, f .some, f .within i n));
-            nearest-is = o-is ∙ ap (λ (s : ℕ). getD (l .nearest) s 0) (sym (led .state-is)) ∙ all .done (start ws h) (led .known-is) .near;
+            nearest-is = o-is ∙ ap (λ (s : ℕ). getD (l .nearest) s 0) (sym (led .state-is)) ∙ all .done (start ws h) (start-is-known ws h) .near;
             reached = next-start;
             places-room = omega (arith, loop-long .0);
             numbers-room = omega (arith, loop-long .1);

@@ -1,6 +1,6 @@
 -- What the words of the codes' first bytes hold, and what passing over bytes needs and promises. Assumes nothing: these are definitions.
 use mathlib.Core.Path.{_≡_}
-use mathlib.Core.Bool.{true, _&&_, _||_}
+use mathlib.Core.Bool.{Bool, true, _&&_, _||_}
 use mathlib.Core.List.{List}
 use mathlib.Core.Logic.{_≢_}
 use Prim.Native.Nat.{ℕ, _+_, _*_, _-_, _≤_, _<_}
@@ -12,7 +12,7 @@ use Rattle.bits.specs.Bits.{holds}
 use Rattle.starts.specs.Starts.{code, known, total, state}
 use Rattle.boards.specs.Tables.{part, Good, Offsets}
 
--- how many first bytes each code has, at most 4
+-- so many first bytes every code has: at most 4, and at least 1 if no length is 0
 pub record Shortest (ls : List ℕ) (depth : ℕ) : Type 0 where
   pub few : depth ≤ 4
   pub within : (j : ℕ) → j < length ls → depth ≤ getD ls j 0
@@ -51,16 +51,13 @@ pub record Filled-from (from : ℕ) (a b : List ℕ) : Type 0 where
 
 -- THE WORDS: in the rows below `depth` a code's bit is set at its byte of that number, in the others everywhere
 pub record Fronts (ws : List (List ℕ)) (depth : ℕ) (words starts : List ℕ) : Type 0 where
-  pub each : (q c j : ℕ) → q < depth → c < 256 → j < 64 → holds (getD words (256 * q + c) 0) (63 - j) ≡ ltb j (length ws) && eqb (byte (code ws j) q) c
+  pub put : All-put ws depth words starts
   pub all : (q c j : ℕ) → depth ≤ q → q < 4 → c < 256 → j < 64 → holds (getD words (256 * q + c) 0) (63 - j) ≡ true
   pub some : 1 ≤ depth
   pub most : depth ≤ 4
   pub within : (j : ℕ) → j < length ws → depth ≤ length (code ws j)
-  pub offsets : Offsets ws starts
   pub codes-few : length ws ≤ 64
   pub few : total ws ≤ 2000
-  pub words-long : length words ≡ 1024
-  pub starts-long : length starts ≡ 64
 
 -- WHAT A PIECE'S BYTES from i on have in common: byte number q has its word in row q
 unfoldable pub word-at : (words piece : List ℕ) → (i q : ℕ) → ℕ
@@ -72,12 +69,15 @@ pair-at ws cs i = bitAnd (word-at ws cs i 0) (word-at ws cs i 1)
 unfoldable pub common-at : (words piece : List ℕ) → (i : ℕ) → ℕ
 common-at ws cs i = bitAnd (pair-at ws cs i) (bitAnd (word-at ws cs i 2) (word-at ws cs i 3))
 
--- PASSING
+-- PASSING: nothing in common at any of four indexes
+abbrev pub None-begins : (words piece : List ℕ) → (i : ℕ) → (r : Bool) → Type 0
+None-begins ws cs i r = r ≡ true → (q : ℕ) → q < 4 → common-at ws cs (i + q) ≡ 0
+
 pub record On-pass (words piece : List ℕ) (from : ℕ) : Type 0 where
   pub words-long : length words ≡ 1024
   pub inside : from < length piece
 
--- from one index on to another, which is still inside, four bytes have nothing in common
+-- from one index on up to another, which is still inside, the words of the four bytes from each on have nothing in common
 pub record Passed (words piece : List ℕ) (from to : ℕ) : Type 0 where
   pub onward : from ≤ to
   pub inside : to < length piece
@@ -92,7 +92,7 @@ pub record Stopped (words piece : List ℕ) (from to : ℕ) : Type 0 where
 pub record Entering (ws : List (List ℕ)) (words starts : List ℕ) (depth : ℕ) (piece : List ℕ) (i : ℕ) : Type 0 where
   pub fronts : Fronts ws depth words starts
   pub inside : i + 3 < length piece
-  pub bytes : (j : ℕ) → j < length piece → getD piece j 0 < 256
+  pub bytes : (j : ℕ) → getD piece j 0 < 256
   pub begins : common-at words piece i ≢ 0
 
 pub record On-enter (words starts : List ℕ) (depth : ℕ) (piece : List ℕ) (i : ℕ) : Type 0 where

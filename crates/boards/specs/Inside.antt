@@ -90,18 +90,17 @@ pub record Advancing (ws : List (List ℕ)) (u : List ℕ) (t : Tree-lists) (lin
   pub known-is : known ws u ≡ true
   pub state-is : state ws u ≡ g
   pub inside : i < length piece
-  pub bytes : (j : ℕ) → j < length piece → getD piece j 0 < 256
+  pub bytes : (j : ℕ) → getD piece j 0 < 256
 
 pub record On-advance (t : Tree-lists) (links words starts : List ℕ) (depth g : ℕ) (piece : List ℕ) (i : ℕ) : Type 0 where
   pub ws : List (List ℕ)
   pub u : List ℕ
   pub advancing : Advancing ws u t links words starts depth g piece i
 
--- they lead to state h behind index j, and only the last of them has hits
+-- they lead to state h; j is the index behind them, and none but the last of them has hits
 pub record Advanced (ws : List (List ℕ)) (u piece : List ℕ) (g i h j : ℕ) : Type 0 where
   pub onward : i < j
   pub within : j ≤ length piece
-  pub known-is : known ws (start ws h) ≡ true
   pub state-is : state ws (start ws h) ≡ h
   pub short : length (start ws h) ≤ length u + (j - i)
   pub reads : (x : Watch) (k : ℕ) → x .state ≡ g → length ws ≤ k →

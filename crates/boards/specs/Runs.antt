@@ -33,7 +33,8 @@ Refuses-only ws bs r =
 
 -- THE RUN, from an opening on, of any calls: the watch has counted the bytes taken and the hits, and its state is that of the bytes taken; the hits told are
 -- those in the bytes taken, by rising last byte, longer codes first, so none twice; each has the number of a code, from 1; and those with a code's number are
--- exactly the places that a search for this code alone finds in the bytes taken. And the next call meets only refusals of its own
+-- exactly the places that a search for this code alone finds in the bytes taken. And the next call is refused with 6 or 7 only, under their conditions
+-- (`Refuses-only`); `Endings-told` says that it answers that number
 pub record Run-found (ws : List (List ℕ)) (buffer : List ℕ) (r : Outcome Watch Hit) : Type 0 where
   pub bytes-are : r .after .taken ≡ length (r .bytes)
   pub state-is : r .after .state ≡ state ws (reached ws (r .bytes))

@@ -1,13 +1,14 @@
-// Passing over bytes where no code begins. `words` has a bit for each code at its first bytes, as many as the shortest code has, but at most four (`depth`):
-// bit 63 - j of word 256 * q + c is set where byte q of code number j, from 0, is c; in the rows of words from `depth` on all bits are set. So the bits that
-// the words of four bytes of a text have in common are those of the codes that begin there, the first code's the highest, and where there are none a byte need
-// not be looked up in state 0. In plans the first two bytes mostly decide, so they are asked first, at four indexes at once.
+// Passing over bytes at which no code begins. Codes are told apart by their first bytes, as many as the shortest code has, but at most four (`depth`): a code
+// begins where these stand. `words` has four rows of 256 words, with a bit for each code: in row q, below `depth`, bit 63 - j of word c is set where byte q of
+// code number j, both from 0, is c; in the rows from `depth` on all bits are set. So the bits that the words of four bytes of a text have in common are those
+// of the codes that begin at the first of them, the first code's the highest; where there are none, that byte need not be looked up in state 0.
 ghost use mathlib.Core.Path.{_≡_};
-ghost use Prim.Native.Nat.{_+_, _*_, _≤_, _<_};
+ghost use Prim.Native.Nat.{_+_, _*_, _<_};
 ghost use lib.ListN.{length};
 ghost use Rattle.boards.specs.Board.{cut};
 ghost use Rattle.boards.specs.Fronts.{Shortest, On-put, Code-put, On-fronts, All-put, Filled-from, Fronts, word-at, pair-at, common-at};
-ghost use Rattle.boards.specs.Fronts.{On-pass, Passed, Stopped, On-enter, Enters};
+ghost use Rattle.boards.specs.Fronts.{None-begins, On-pass, Passed, Stopped, On-enter, Enters};
+use crate::least;
 use crate::long;
 use bits::top;
 use bits::with_bit;
@@ -23,9 +24,7 @@ fn shortest(lengths: &[u32]) -> usize
     let mut depth = 4;
     let mut i = 0;
     while i < lengths.len() {
-        if long(lengths[i]) < depth {
-            depth = long(lengths[i]);
-        }
+        depth = least(depth, long(lengths[i]));
         i += 1;
     }
     depth
@@ -94,7 +93,7 @@ fn word(words: &[u64], piece: &[u8], i: usize, q: usize) -> u64
     words[256 * q + wide(piece[i + q])]
 }
 
-// The bits of the codes that begin with the two bytes at i.
+// The bits that the words of the first two bytes at i have in common: no other code can begin there.
 fn pair(words: &[u64], piece: &[u8], i: usize) -> u64
     requires { ⌜ (length (now words) ≡ 1024) × (i + 1 < length (now piece)) ⌝ }
     ensures { λ r. ⌜ r ≡ pair-at (now (words .entry)) (now (piece .entry)) i ⌝ }
@@ -110,69 +109,56 @@ fn common(words: &[u64], piece: &[u8], i: usize) -> u64
     pair(words, piece, i) & (word(words, piece, i, 2) & word(words, piece, i, 3))
 }
 
-// The first of four indexes whose two bytes begin a code; the one behind them if there is none.
-fn pass_four(words: &[u64], piece: &[u8], i: usize) -> usize
+// Whether no code begins at i and the three indexes behind it. In plans the first two bytes mostly decide.
+fn none_begins(words: &[u64], piece: &[u8], i: usize) -> bool
     requires { ⌜ (length (now words) ≡ 1024) × (i + 6 < length (now piece)) ⌝ }
-    ensures { λ r. ⌜ Passed (now (words .entry)) (now (piece .entry)) i r × (r ≤ i + 4) ⌝ }
+    ensures { λ r. ⌜ None-begins (now (words .entry)) (now (piece .entry)) i r ⌝ }
 {
-    let a = pair(words, piece, i);
-    let b = pair(words, piece, i + 1);
-    let c = pair(words, piece, i + 2);
-    let d = pair(words, piece, i + 3);
-    if (a | b) | (c | d) == 0 {
-        return i + 4;
+    let front = pair(words, piece, i) | pair(words, piece, i + 1);
+    let back = pair(words, piece, i + 2) | pair(words, piece, i + 3);
+    if front | back == 0 {
+        return true;
     }
-    if a != 0 {
-        return i;
-    }
-    if b != 0 {
-        return i + 1;
-    }
-    if c != 0 {
-        return i + 2;
-    }
-    i + 3
+    let first = common(words, piece, i) | common(words, piece, i + 1);
+    let last = common(words, piece, i + 2) | common(words, piece, i + 3);
+    first | last == 0
 }
 
-// The first index, from one on, whose two bytes begin a code, or one with few bytes left behind it: sixteen a turn.
-fn pass_pairs(words: &[u64], piece: &[u8], from: usize) -> usize
+// An index, from one on, up to which no code begins: one of it and the three behind it may have one, or at most 18 bytes are left. Sixteen a turn.
+fn pass_blocks(words: &[u64], piece: &[u8], from: usize) -> usize
     requires { ⌜ On-pass (now words) (now piece) from ⌝ }
     ensures { λ r. ⌜ Passed (now (words .entry)) (now (piece .entry)) from r ⌝ }
 {
     let mut i = from;
     while i + 18 < piece.len() {
-        let a = pass_four(words, piece, i);
-        if a < i + 4 {
-            return a;
+        if !none_begins(words, piece, i) {
+            return i;
         }
-        let b = pass_four(words, piece, i + 4);
-        if b < i + 8 {
-            return b;
+        if !none_begins(words, piece, i + 4) {
+            return i + 4;
         }
-        let c = pass_four(words, piece, i + 8);
-        if c < i + 12 {
-            return c;
+        if !none_begins(words, piece, i + 8) {
+            return i + 8;
         }
-        let d = pass_four(words, piece, i + 12);
-        if d < i + 16 {
-            return d;
+        if !none_begins(words, piece, i + 12) {
+            return i + 12;
         }
         i += 16;
     }
     i
 }
 
-// The first index, from one on, where a code begins; one with fewer than four bytes left if there is none before it.
+// The first index, from one on, where a code begins; the first with fewer than four bytes left if there is none before it.
 pub(crate) fn pass(words: &[u64], piece: &[u8], from: usize) -> usize
     requires { ⌜ On-pass (now words) (now piece) from ⌝ }
     ensures { λ r. ⌜ Stopped (now (words .entry)) (now (piece .entry)) from r ⌝ }
 {
-    let mut i = pass_pairs(words, piece, from);
+    let mut i = pass_blocks(words, piece, from);
     while i + 3 < piece.len() {
         if common(words, piece, i) != 0 {
             return i;
         }
-        i = pass_pairs(words, piece, i + 1);
+        i += 1;
     }
     i
 }

@@ -1,6 +1,6 @@
 // Boards (many codes in one pass, by the automaton of Aho and Corasick): preparing the board of 1 to 64 codes, and its watch. piece.rt has feeding.
 ghost use mathlib.Core.Path.{_≡_};
-ghost use Prim.Native.Nat.{_≤_, _<_};
+ghost use Prim.Native.Nat.{_≤_, _<_, min};
 ghost use lib.ListN.{length};
 ghost use Rattle.words.specs.Words.{member};
 ghost use Rattle.automaton.specs.Costs.{sum};
@@ -75,6 +75,13 @@ fn long(x: u32) -> usize
     ensures { λ r. ⌜ (r ≡ x) × (r ≤ 4294967295) ⌝ }
 {
     x as usize
+}
+
+// The smaller of two numbers.
+fn least(a: usize, b: usize) -> usize
+    ensures { λ r. ⌜ r ≡ min a b ⌝ }
+{
+    if a <= b { a } else { b }
 }
 
 // Whether a length is 0, and whether one is over the longest code's.

@@ -1,6 +1,6 @@
 // Feeding: one pass over a piece of text, from the watch answered before to the next one, and the hits in two lists.
 ghost use mathlib.Core.Path.{_≡_};
-ghost use Prim.Native.Nat.{_+_, _*_, _≤_, min};
+ghost use Prim.Native.Nat.{_+_, _*_, _≤_};
 ghost use lib.ListN.{length};
 ghost use Rattle.boards.specs.Board.{cut};
 ghost use Rattle.boards.specs.Tables.{tree, tables};
@@ -17,6 +17,7 @@ use crate::fronts::pass;
 use crate::fronts::put_fronts;
 use crate::index;
 use crate::layout::write_board;
+use crate::least;
 use crate::links::step;
 use crate::list_refusal;
 use crate::long;
@@ -24,13 +25,6 @@ use runs::Ending;
 use sheets::pair;
 use sheets::same_front;
 use sheets::wide;
-
-// The smaller of two numbers.
-fn least(a: usize, b: usize) -> usize
-    ensures { λ r. ⌜ r ≡ min a b ⌝ }
-{
-    if a <= b { a } else { b }
-}
 
 // The hits of code number o, from 1, and of the shorter codes that it ends with, after so many bytes, written from spot k on; the spot behind them.
 fn write_hits(

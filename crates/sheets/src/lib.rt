@@ -247,8 +247,8 @@ pub fn prepare(code: &[u8], buffer: &mut [u8]) -> Answer
     Answer::Value(fill(code, 2, buffer) as u64)
 }
 
-// Whether a and b have n bytes and the same ones. It goes on behind a difference, so that the compiler compares many at a
-// time: with codes of 255 bytes the test of a sheet takes about a quarter less.
+// Whether a and b have at least n bytes each, and the same first n. It goes on behind a difference, so that the compiler compares many at a time: with codes
+// of 255 bytes the test of a sheet takes about a quarter less.
 pub fn same_front(a: &[u8], b: &[u8], n: usize) -> bool
     ensures { λ r. ⌜ r ≡ leb n (length (now (b .entry))) && same (take n (now (a .entry))) (take n (now (b .entry))) ⌝ }
 {

@@ -5,7 +5,7 @@ use native.Mathlib.Omega.{arith}
 use borrow.Author.Needs.{needs}
 use lib.ListN.{length}
 use Rattle.boards.specs.Fronts.{Passed}
-use Rattle.boards.proofs.FirstBytes.{passed-one, passed-on}
+use Rattle.boards.proofs.FirstBytes.{passed-one}
 use Rattle.boards.proofs.fronts.pass.Statement.{statement}
 use Rattle.boards.proofs.fronts.pass.Tie as tie
 
@@ -15,11 +15,11 @@ Inv-loop words piece from i₀ i = Passed words piece from i
 abbrev μ-loop : tie.MeasureT-loop
 μ-loop words piece from i₀ i = length piece - i
 
-pass-pairs-requires : tie.Need-pass-pairs-requires Inv-loop μ-loop
-pass-pairs-requires c κs = search needs
+pass-blocks-requires : tie.Need-pass-blocks-requires Inv-loop μ-loop
+pass-blocks-requires c κs = search needs
 
 loop-holds : tie.Need-loop-holds Inv-loop μ-loop
-loop-holds c = c .pass-pairs .ensures
+loop-holds c = c .pass-blocks .ensures
 
 add-loop : tie.Need-add-loop Inv-loop μ-loop
 add-loop c = search needs
@@ -30,20 +30,15 @@ common-requires c κs = search needs
 returns : tie.Need-returns Inv-loop μ-loop
 returns c = record { passed = c .before .before .before .loop .inv; stops = λ _ e. c .if1 .taken (c .before .common .ensures ∙ e) }
 
-add-pass-pairs : tie.Need-add-pass-pairs Inv-loop μ-loop
-add-pass-pairs c = search needs
-
-pass-pairs-requires-2 : tie.Need-pass-pairs-requires-2 Inv-loop μ-loop
-pass-pairs-requires-2 c κs = search needs
+add-i : tie.Need-add-i Inv-loop μ-loop
+add-i c = search needs
 
 loop-less : tie.Need-loop-less Inv-loop μ-loop
-loop-less c = let p = c .pass-pairs2 .ensures in omega (arith, p .onward, p .inside)
+loop-less c = search needs
 
 loop-again : tie.Need-loop-again Inv-loop μ-loop
 loop-again c =
-    let e = c .before in
-    let none = sym (e .before .common .ensures) ∙ e .if1 .left in
-    passed-on (passed-one (e .before .before .before .loop .inv) _ refl (omega arith) none) (c .pass-pairs2 .ensures) _ refl
+    passed-one (c .before .before .before .loop .inv) _ refl (omega arith) (sym (c .before .common .ensures) ∙ c .if1 .left)
 
 returns-2 : tie.Need-returns-2 Inv-loop μ-loop
 returns-2 c = record { passed = c .before .loop .inv; stops = λ h. absurd (omega arith) }
@@ -54,13 +49,12 @@ pass-spec =
     (tie.spec
     Inv-loop
     μ-loop
-    pass-pairs-requires
+    pass-blocks-requires
     loop-holds
     add-loop
     common-requires
     returns
-    add-pass-pairs
-    pass-pairs-requires-2
+    add-i
     loop-less
     loop-again
     returns-2)

@@ -44,17 +44,17 @@ loop-holds : tie.Need-loop-holds Inv-loop μ-loop
 loop-holds c =
     let s = c .before .before .before .before in
     let q = s .before .before .before .before .before .before .before .before .before .before .before .before .before .before .before .pre in
-    let bytes = s .before .before .before .before .before .shared-slice-known10 .given in
-    loop-start _ _ (record { boarded = q .0; ready = q .1; fronts = s .put-fronts .ensures; small = λ i. bytes i .fits })
+    let given = s .before .before .before .before .before .shared-slice-known10 .given in
+    loop-start _ _ (record { boarded = q .0; ready = q .1; fronts = s .put-fronts .ensures; bytes = λ i. given i .fits })
 
 add-if1 : tie.Need-add-if1 Inv-loop μ-loop
 add-if1 c = let b = loop-bounds (c .before .loop .inv) in omega (arith, b .1, b .2, b .4)
 
 slice-aggregate-advance : tie.Need-slice-aggregate-advance Inv-loop μ-loop
-slice-aggregate-advance c = sym (c .before .before .before .loop .inv .lists .fronts .words-long)
+slice-aggregate-advance c = sym (c .before .before .before .loop .inv .lists .fronts .put .words-long)
 
 slice-aggregate-advance-2 : tie.Need-slice-aggregate-advance-2 Inv-loop μ-loop
-slice-aggregate-advance-2 c = sym (c .before .before .before .before .loop .inv .lists .fronts .starts-long)
+slice-aggregate-advance-2 c = sym (c .before .before .before .before .loop .inv .lists .fronts .put .starts-long)
 
 advance-requires : tie.Need-advance-requires Inv-loop μ-loop
 advance-requires c κs = turn-needs (c .before .before .before .before .loop .inv) (c .before .before .before .loop-test .taken)
