@@ -1,8 +1,8 @@
-/* The C side of crates/entries: preparing and feeding as the tests and the benchmark call them. `rt staticlib entries` makes the archive.
+/* The C side of crates/entries: preparing, feeding and joining as the tests and the benchmark call them. `rt staticlib entries` makes the archive.
 
    A Rattle slice is a pointer and a number of elements. The structs are #[repr(C)] in Rattle (PreparedNumbers, FedNumbers, HitNumbers), so they are
    laid out as C lays them out; the offsets are stated below. Memory that is written to must not overlap any other that is lent; what else is said of
-   memory in finder.h holds here too. Other implementations of preparing and feeding answer the same structs, so that one caller serves all. */
+   memory in finder.h holds here too. Other implementations answer the same structs, so that one caller serves all. */
 #ifndef ENTRIES_H
 #define ENTRIES_H
 
@@ -23,7 +23,7 @@ enum {
     BOARD_ROOM = 32768
 };
 
-/* What preparing answers: the length of the sheet or board, or 0 and the number of the refusal. */
+/* What preparing and joining answer: the length of the sheet or board, or 0 and the number of the refusal. */
 struct prepared {
     uint64_t length;
     uint32_t refusal;
@@ -77,9 +77,13 @@ typedef struct prepared board_preparer(const uint32_t *lengths, size_t count, co
 typedef struct hit_numbers board_feeder(const uint8_t *board, size_t board_length, uint32_t state, uint32_t taken, uint64_t hits, const uint8_t *piece,
                                         size_t piece_length, uint32_t *places, size_t place_room, uint32_t *numbers, size_t number_room);
 
+/* Two boards joined: the first one's codes in their order, then those of the second that the first lacks, are prepared in a third buffer. */
+typedef struct prepared board_joiner(const uint8_t *first, size_t first_length, const uint8_t *second, size_t second_length, uint8_t *buffer, size_t room);
+
 preparer entries_prepare; /* proved, in Rattle */
 feeder entries_feed;
 board_preparer entries_prepare_board;
 board_feeder entries_feed_board;
+board_joiner entries_join_boards;
 
 #endif

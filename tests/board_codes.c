@@ -11,6 +11,37 @@ static uint8_t random_byte(size_t letters)
     return from_32(random_letter(letters));
 }
 
+/* ---- Words and codes */
+
+int is_there(const uint8_t *code, size_t length)
+{
+    size_t j, offset = 0;
+
+    for (j = 0; j < count; offset += lengths[j++])
+        if (lengths[j] == length && memcmp(bytes + offset, code, length) == 0)
+            return 1;
+    return 0;
+}
+
+void put_words(const char *words)
+{
+    size_t length;
+
+    for (; *words != 0; words += length + (words[length] == ' ')) {
+        length = strcspn(words, " ");
+        put_code((const uint8_t *)words, length);
+    }
+}
+
+size_t spell(unsigned number, const char *letters, unsigned letter_count, uint8_t *word)
+{
+    size_t length = 0;
+
+    for (; number > 0; number = (number - 1) / letter_count)
+        word[length++] = (uint8_t)letters[(number - 1) % letter_count];
+    return length;
+}
+
 /* ---- Codes by a rule */
 
 void put_numbered(size_t codes, size_t length)
@@ -72,16 +103,6 @@ void put_alike(size_t codes, size_t period)
 }
 
 /* ---- Generated codes and texts */
-
-static int is_there(const uint8_t *code, size_t length)
-{
-    size_t j, offset = 0;
-
-    for (j = 0; j < count; offset += lengths[j++])
-        if (lengths[j] == length && memcmp(bytes + offset, code, length) == 0)
-            return 1;
-    return 0;
-}
 
 /* Some code of the list, and its length. */
 static const uint8_t *random_code(size_t *length)

@@ -4,6 +4,15 @@
 
 #include "board_calls.h"
 
+/* Whether the list of codes has this one. */
+int is_there(const uint8_t *code, size_t length);
+
+/* Puts words that have a blank between them. */
+void put_words(const char *words);
+
+/* The word of a number over some letters: 0 is the empty one, then come those of one letter, of two and so on. Answers its length. */
+size_t spell(unsigned number, const char *letters, unsigned letter_count, uint8_t *word);
+
 /* So many different codes of so many bytes each: numbers of the base 90, low digit first. No board is made of them. */
 void put_numbered(size_t codes, size_t length);
 

@@ -8,11 +8,9 @@
 
 uint64_t taken_as_boards;
 
-/* Feeds the first bytes of the codes with a buffer as the board. Answers the refusal, 4 or none. */
-static uint32_t try_buffer(const uint8_t *buffer, size_t length)
+uint32_t feed_with(const uint8_t *buffer, size_t length)
 {
     struct board_call c;
-    uint32_t refusal;
 
     c.board = buffer;
     c.board_length = length;
@@ -20,14 +18,20 @@ static uint32_t try_buffer(const uint8_t *buffer, size_t length)
     c.piece = bytes;
     c.piece_length = size < 4 ? size : 4;
     c.place_room = c.number_room = MOST_CODES;
-    refusal = compare_plain(&c);
+    return compare_plain(&c);
+}
+
+static uint32_t try_buffer(buffer_trial *lend, const uint8_t *buffer, size_t length)
+{
+    uint32_t refusal = lend(buffer, length);
+
     if (refusal != 0 && refusal != 4)
         differ("a wrong board is refused with another number");
     taken_as_boards += refusal == 0;
     return refusal;
 }
 
-void spoil_bytes(size_t from, size_t end, size_t stride, const uint8_t *changes, size_t changes_count)
+void spoil_bytes(buffer_trial *lend, size_t from, size_t end, size_t stride, const uint8_t *changes, size_t changes_count)
 {
     static uint8_t wrong[BOARD_HERE];
     size_t i, k;
@@ -36,23 +40,23 @@ void spoil_bytes(size_t from, size_t end, size_t stride, const uint8_t *changes,
     for (i = from; i < end; i += stride) {
         for (k = 0; k < changes_count; k++) {
             wrong[i] = (uint8_t)(board[i] ^ changes[k]);
-            if (try_buffer(wrong, board_length) == 0 && i >= 1 + 2 * count + size)
+            if (try_buffer(lend, wrong, board_length) == 0 && i >= 1 + 2 * count + size)
                 differ("a board is taken with other links");
         }
         wrong[i] = board[i];
     }
 }
 
-void cut_off(void)
+void cut_off(buffer_trial *lend)
 {
     size_t length;
 
     for (length = 0; length < board_length; length++)
-        if (try_buffer(board, length) != 4)
+        if (try_buffer(lend, board, length) != 4)
             differ("a part of a board is taken");
 }
 
-void try_behind(void)
+void try_behind(buffer_trial *lend)
 {
     static uint8_t longer[BOARD_ROOM + BEHIND];
     unsigned byte;
@@ -60,50 +64,50 @@ void try_behind(void)
     for (byte = 0; byte < 256; byte += 15) {
         memset(longer, (int)byte, sizeof longer);
         memcpy(longer, board, board_length);
-        if (try_buffer(longer, board_length) != 0 || try_buffer(longer, board_length + 1) != 0 || try_buffer(longer, sizeof longer) != 0)
+        if (try_buffer(lend, longer, board_length) != 0 || try_buffer(lend, longer, board_length + 1) != 0 || try_buffer(lend, longer, sizeof longer) != 0)
             differ("a board is not taken, for the bytes behind it");
     }
 }
 
 /* The layout of the codes, which are refused. */
-static void try_layout(void)
+static void try_layout(buffer_trial *lend)
 {
     static uint8_t buffer[BOARD_HERE];
     struct many b = many_of(lengths, count, bytes);
 
     if (plain_codes_refusal(lengths, count, bytes, size) == 0)
         differ("the test has refused codes in mind");
-    if (try_buffer(buffer, plain_board(&b, buffer)) != 4)
+    if (try_buffer(lend, buffer, plain_board(&b, buffer)) != 4)
         differ("the layout of codes that are refused is taken as a board");
 }
 
-void try_refused_layouts(void)
+void try_refused_layouts(const char *group, buffer_trial *lend)
 {
     size_t i, j;
 
-    begin_group("boards of codes that are refused");
+    begin_group(group);
     no_codes();
-    try_layout();
+    try_layout(lend);
     for (i = 0; i < 6; i++)
         for (j = 0; j < i; j++) {
             put_numbered(6, 3);
             memcpy(bytes + 3 * i, bytes + 3 * j, 3);
-            try_layout();
+            try_layout(lend);
         }
     for (i = 0; i < 18; i++) {
         put_numbered(6, 3);
         bytes[i] = 31;
-        try_layout();
+        try_layout(lend);
     }
     put_numbered(65, 2);
-    try_layout();
+    try_layout(lend);
     put_numbered(1, MOST_BYTES + 1);
-    try_layout();
+    try_layout(lend);
     put_numbered(2, 1);
     put_code(bytes, 0);
-    try_layout();
+    try_layout(lend);
     put_numbered(1, 4001);
-    try_layout();
+    try_layout(lend);
     end_group();
 }
 

@@ -1,6 +1,6 @@
-/* Holds preparing and feeding boards, as C calls them, to many.c, a naive search, and to separate searches for each code; and any watch and any buffer to
-   the definitions of request 102. Codes and texts are those of Aho and Corasick's paper, all short ones over a few letters, and those of a fixed generator, in
-   which codes are starts, ends and inner parts of each other. The first difference ends the test with exit status 1. */
+/* Holds preparing, feeding and joining boards, as C calls them, to many.c, a naive search, and to separate searches for each code; and any watch and any
+   buffer to the definitions of requests 102 and 109. Codes and texts are those of Aho and Corasick's paper, all short ones over a few letters, and those of a
+   fixed generator, in which codes are starts, ends and inner parts of each other. The first difference ends the test with exit status 1. */
 #define _DEFAULT_SOURCE /* for MAP_ANONYMOUS */
 #include <inttypes.h>
 #include <stdio.h>
@@ -9,6 +9,7 @@
 
 #include "board_codes.h"
 #include "board_cuttings.h"
+#include "board_joins.h"
 #include "board_lists.h"
 #include "board_odd.h"
 #include "random.h"
@@ -22,11 +23,6 @@ enum {
 
 /* ---- Codes and texts by hand */
 
-static void put_word(const char *word)
-{
-    put_code((const uint8_t *)word, strlen(word));
-}
-
 static void use_word_as_text(const char *word)
 {
     n = strlen(word);
@@ -36,10 +32,7 @@ static void use_word_as_text(const char *word)
 static void use_four(void)
 {
     no_codes();
-    put_word("he");
-    put_word("she");
-    put_word("hers");
-    put_word("his");
+    put_words("he she hers his");
     use_codes();
 }
 
@@ -69,16 +62,6 @@ static void try_the_papers(void)
 }
 
 /* ---- All short codes */
-
-/* The word of a number over some letters: 0 is the empty one, then come those of one letter, of two and so on. Answers its length. */
-static size_t spell(unsigned number, const char *letters, unsigned letter_count, uint8_t *word)
-{
-    size_t length = 0;
-
-    for (; number > 0; number = (number - 1) / letter_count)
-        word[length++] = (uint8_t)letters[(number - 1) % letter_count];
-    return length;
-}
 
 /* The codes of three numbers over two letters, without those of number 0. Whether they are different, and none is left out before another. */
 static int put_three(unsigned a, unsigned b, unsigned c)
@@ -289,13 +272,15 @@ static void try_every_byte(void)
 
 /* ---- Wrong boards and watches */
 
-static void try_wrong_boards(void)
+/* Each is lent as a board by the trial. */
+static void try_wrong_boards(const char *group, buffer_trial *lend)
 {
     static const uint8_t some[] = {1, 2, 128, 255};
     uint8_t all[255];
     unsigned i;
 
-    begin_group("boards with one byte changed, with their end cut off or with bytes behind them");
+    begin_group(group);
+    taken_as_boards = 0;
     for (i = 0; i < sizeof all; i++)
         all[i] = (uint8_t)(i + 1);
     for (i = 0; i < 4; i++) {
@@ -304,20 +289,20 @@ static void try_wrong_boards(void)
             use_four();
         else
             generate_codes(3 * i, 2, 1, 4);
-        spoil_bytes(0, board_length, 1, all, sizeof all);
-        cut_off();
-        try_behind();
+        spoil_bytes(lend, 0, board_length, 1, all, sizeof all);
+        cut_off(lend);
+        try_behind(lend);
     }
     generate_codes(20, 3, 1, 9);
-    spoil_bytes(0, board_length, 1, some, sizeof some);
-    cut_off();
-    try_behind();
+    spoil_bytes(lend, 0, board_length, 1, some, sizeof some);
+    cut_off(lend);
+    try_behind(lend);
     put_alike(5, 7);
-    spoil_bytes(0, 1 + 2 * count, 1, some, sizeof some);
-    spoil_bytes(1 + 2 * count, 1 + 2 * count + size, 199, some, 2);
-    spoil_bytes(1 + 2 * count + size, board_length, 1, some, 2);
-    cut_off();
-    try_behind();
+    spoil_bytes(lend, 0, 1 + 2 * count, 1, some, sizeof some);
+    spoil_bytes(lend, 1 + 2 * count, 1 + 2 * count + size, 199, some, 2);
+    spoil_bytes(lend, 1 + 2 * count + size, board_length, 1, some, 2);
+    cut_off(lend);
+    try_behind(lend);
     end_group();
     printf("boards: %" PRIu64 " of them are taken: with bytes behind them, or as the board of other codes\n", taken_as_boards);
 }
@@ -328,14 +313,11 @@ static void try_watches(void)
     use_four();
     try_every_state();
     no_codes();
-    put_word("a");
+    put_words("a");
     use_codes();
     try_every_state();
     no_codes();
-    put_word("abab");
-    put_word("ab");
-    put_word("aba");
-    put_word("b");
+    put_words("abab ab aba b");
     use_codes();
     try_every_state();
     seed_random(5);
@@ -362,8 +344,11 @@ int main(void)
     try_long_parts();
     printf("boards: these texts have %" PRIu64 " hits, and %" PRIu64 " calls ended with a list full\n", hits_told, lists_full);
     try_refused_lists();
-    try_wrong_boards();
-    try_refused_layouts();
+    try_wrong_boards("boards with one byte changed, with their end cut off or with bytes behind them", feed_with);
+    try_refused_layouts("boards of codes that are refused", feed_with);
     try_watches();
+    try_joins();
+    try_wrong_boards("joining boards with one byte changed, with their end cut off or with bytes behind them", join_with);
+    try_refused_layouts("joining boards of codes that are refused", join_with);
     return 0;
 }

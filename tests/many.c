@@ -2,6 +2,8 @@
 
 #include <string.h>
 
+enum { KEPT = 4 }; /* boards that are kept */
+
 /* ---- Codes and states */
 
 static size_t least(size_t a, size_t b)
@@ -119,14 +121,24 @@ static int has_control(const uint8_t *bytes, size_t size)
     return 0;
 }
 
+/* Whether one of the first codes, so many, is this one. */
+static int has_code(const struct many *b, size_t codes, const uint8_t *code, size_t length)
+{
+    size_t j;
+
+    for (j = 0; j < codes; j++)
+        if (b->lengths[j] == length && same(code_of(b, j), code, length))
+            return 1;
+    return 0;
+}
+
 static int has_twice(const struct many *b)
 {
-    size_t i, j;
+    size_t i;
 
     for (i = 0; i < b->count; i++)
-        for (j = 0; j < i; j++)
-            if (b->lengths[i] == b->lengths[j] && same(code_of(b, i), code_of(b, j), b->lengths[i]))
-                return 1;
+        if (has_code(b, i, code_of(b, i), b->lengths[i]))
+            return 1;
     return 0;
 }
 
@@ -185,21 +197,32 @@ size_t plain_board(const struct many *b, uint8_t *board)
     return (size_t)(end - board);
 }
 
-/* The board of accepted codes, and its length. The last one is kept: most calls name the same codes as the one before. */
+static int same_codes(const struct many *a, const struct many *b)
+{
+    return a->count == b->count && a->total == b->total && memcmp(a->lengths, b->lengths, a->count * sizeof *a->lengths) == 0 &&
+           memcmp(a->bytes, b->bytes, a->total) == 0;
+}
+
+/* The board of accepted codes, and its length. The last ones made are kept: most calls name the same codes as one before. */
 static const uint8_t *kept_board(const struct many *b, size_t *length)
 {
-    static uint8_t board[BOARD_HERE], bytes[MOST_BYTES];
-    static struct many kept;
-    static size_t kept_length;
+    static uint8_t boards[KEPT][BOARD_HERE], bytes[KEPT][MOST_BYTES];
+    static struct many kept[KEPT];
+    static size_t kept_lengths[KEPT], oldest;
+    size_t k;
 
-    if (kept.count != b->count || kept.total != b->total || memcmp(kept.lengths, b->lengths, b->count * sizeof *b->lengths) != 0 ||
-        memcmp(bytes, b->bytes, b->total) != 0) {
-        kept = *b;
-        memcpy(bytes, b->bytes, b->total);
-        kept_length = plain_board(b, board);
+    for (k = 0; k < KEPT && !same_codes(&kept[k], b); k++)
+        ;
+    if (k == KEPT) {
+        k = oldest;
+        oldest = (oldest + 1) % KEPT;
+        memcpy(bytes[k], b->bytes, b->total);
+        kept[k] = *b;
+        kept[k].bytes = bytes[k];
+        kept_lengths[k] = plain_board(b, boards[k]);
     }
-    *length = kept_length;
-    return board;
+    *length = kept_lengths[k];
+    return boards[k];
 }
 
 struct prepared plain_prepare_board(const uint32_t *lengths, size_t count, const uint8_t *bytes, size_t size, uint8_t *buffer, size_t room)
@@ -266,7 +289,7 @@ struct hit_numbers reading_call(const struct reading *x, size_t from, size_t end
     return answer;
 }
 
-/* ---- Feeding */
+/* ---- Buffers that are lent as boards */
 
 /* The codes that a buffer names: as many lengths as its first byte tells, then as many bytes as these add up to. Whether they are accepted and there. */
 static int named(const uint8_t *buffer, size_t length, struct many *b)
@@ -299,6 +322,8 @@ static int begins_with_board(const uint8_t *buffer, size_t length, struct many *
     board = kept_board(b, &end);
     return end <= length && memcmp(buffer, board, end) == 0;
 }
+
+/* ---- Feeding */
 
 static int is_unfit(const struct many *b, const struct hit_numbers *x)
 {
@@ -357,4 +382,40 @@ struct hit_numbers plain_feed_board(const uint8_t *board, size_t board_length, u
     x.hits = hits;
     x.refusal = feed_refusal(board, board_length, &b, &x, piece_length, room);
     return x.refusal != 0 ? x : feed_after_start(&b, &x, piece, piece_length, room, places, numbers);
+}
+
+/* ---- Joining */
+
+/* Codes as preparing is given them, with room for those of two boards. */
+struct list {
+    uint32_t lengths[2 * MOST_CODES];
+    uint8_t bytes[2 * MOST_BYTES];
+    size_t count, total;
+};
+
+/* Adds code number j, from 0, of a board. */
+static void add_code(struct list *l, const struct many *b, size_t j)
+{
+    memcpy(l->bytes + l->total, code_of(b, j), b->lengths[j]);
+    l->lengths[l->count++] = (uint32_t)b->lengths[j];
+    l->total += b->lengths[j];
+}
+
+/* Of codes that are accepted, each once, preparing refuses too many codes or bytes, 10, and then too small a buffer, 3, and nothing else. */
+struct prepared plain_join_boards(const uint8_t *first, size_t first_length, const uint8_t *second, size_t second_length, uint8_t *buffer, size_t room)
+{
+    const struct prepared no_board = {0, 4};
+    struct list joined;
+    struct many a, b;
+    size_t j;
+
+    if (!begins_with_board(first, first_length, &a) || !begins_with_board(second, second_length, &b))
+        return no_board;
+    joined.count = joined.total = 0;
+    for (j = 0; j < a.count; j++)
+        add_code(&joined, &a, j);
+    for (j = 0; j < b.count; j++)
+        if (!has_code(&a, a.count, code_of(&b, j), b.lengths[j]))
+            add_code(&joined, &b, j);
+    return plain_prepare_board(joined.lengths, joined.count, joined.bytes, joined.total, buffer, room);
 }

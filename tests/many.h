@@ -1,13 +1,13 @@
-/* Boards, in plain C: the states of many codes, the board's bytes, preparing, feeding and a naive search, as the sentences of request 102 read and without
-   regard to speed. Of the library only the shapes of its answers are used. */
+/* Boards, in plain C: the states of many codes, the board's bytes, preparing, feeding, joining and a naive search, as the sentences of requests 102 and 109
+   read and without regard to speed. Of the library only the shapes of its answers are used. */
 #ifndef MANY_H
 #define MANY_H
 
 #include "../c/entries.h"
 
 enum {
-    LENGTHS_HERE = 100, /* of the longest list of lengths that a layout is made of */
-    BYTES_HERE = 4100,  /* of the codes of such a list */
+    LENGTHS_HERE = 2 * MOST_CODES, /* of the longest list: two boards have no more codes */
+    BYTES_HERE = 4100,             /* of the codes of such a list */
     BOARD_HERE = 1 + 3 * LENGTHS_HERE + BYTES_HERE + 3 * (BYTES_HERE + 1),
     TEXT_HERE = 8192,
     HITS_HERE = MOST_CODES * TEXT_HERE
@@ -20,7 +20,7 @@ struct many {
     size_t lengths[LENGTHS_HERE], offsets[LENGTHS_HERE];
 };
 
-/* The codes of these lengths in these bytes; at most 100, which need not be accepted. */
+/* The codes of these lengths in these bytes; at most 128, which need not be accepted. */
 struct many many_of(const uint32_t *lengths, size_t count, const uint8_t *bytes);
 
 /* Whether a number is a state: that of a byte, counted through the codes from 1, such that no earlier code has the start that ends with it; or 0, of the
@@ -34,9 +34,10 @@ uint32_t plain_codes_refusal(const uint32_t *lengths, size_t count, const uint8_
 /* What the codes' board would be, whether they are accepted or not; its length. */
 size_t plain_board(const struct many *b, uint8_t *board);
 
-/* Preparing, and one feeding of any watch. */
+/* Preparing, one feeding of any watch, and joining. */
 board_preparer plain_prepare_board;
 board_feeder plain_feed_board;
+board_joiner plain_join_boards;
 
 /* What a naive search finds in a text: at each end every code that stands there, longer ones first. The same however the text is cut, so it is worked out
    once. Index n stands for the first n bytes of the text. */

@@ -1,5 +1,5 @@
 -- Which codes are accepted, which watches are fit, and what preparing and feeding refuse: each test tells a fact, and the first that fails gives the number.
--- Assumes nothing.
+-- Joining's refusals are told by the same tests. Assumes nothing.
 use mathlib.Core.Path.{_≡_, refl, sym, ap, _∙_}
 use mathlib.Core.Bool.{Bool, true, false, _&&_, not}
 use mathlib.Core.List.{List, [], _∷_, _++_, map}
@@ -20,14 +20,14 @@ use Rattle.codes.proofs.Controls.{clean-bytes, bytes-clean}
 use Rattle.starts.specs.Starts.{code, total, start, is-code, index, number, twice}
 use Rattle.starts.proofs.Codes.{index-below, code-index, number-at}
 use Rattle.boards.specs.declared.Watch.{Watch}
-use Rattle.boards.specs.Board.{cut, joined, board-room, some-above, no-board, list-refusal, codes-refusal, accepted, named, begins}
+use Rattle.boards.specs.Board.{cut, bytes-of, board-room, some-above, no-board, list-refusal, codes-refusal, accepted, named, begins}
 use Rattle.boards.specs.Feed.{fit}
 use Rattle.boards.specs.Entry.{prepare-refusal, Lent, room, call-refusal, feed-refusal}
 use Rattle.boards.specs.Promise.{Filled, Short, Boardable, Clean, Different, Boards-accepted, Refusals-told}
 use Rattle.boards.specs.Promise.{Stands-for, Fit-for, Watches-fit, Spots, Feeding-refused}
-use Rattle.boards.proofs.Rows.{length-joined}
+use Rattle.boards.proofs.Rows.{length-bytes}
 use Rattle.boards.proofs.Listing.{Some, empty-some, long-some, none-every, no-codes, many-codes, many-bytes, by-sum}
-use Rattle.boards.proofs.Boards.{sum-lengths, joined-cut}
+use Rattle.boards.proofs.Boards.{sum-lengths, bytes-cut}
 use Rattle.boards.proofs.Watching.{start-is-known, fit-is, fit-test, fit-start}
 
 -- A TEST DECIDES a fact: it passes exactly where the fact holds
@@ -35,19 +35,19 @@ abbrev Decides : Bool → Type 0 → Type 0
 Decides t P = (t ≡ true) ↔ P
 
 module _ {t : Bool} {P : Type 0} (p : (t ≡ false) ↔ P) where
-  decides-not : Decides (not t) P
+  pub decides-not : Decides (not t) P
   decides-not = (λ e. p .0 (not-true t e), λ h. ap not (p .1 h))
 
-  decides-then : {s : Bool} {Q : Type 0} → Decides s Q → Decides (not t && s) (P × Q)
+  pub decides-then : {s : Bool} {Q : Type 0} → Decides s Q → Decides (not t && s) (P × Q)
   decides-then {s} q = (
     λ e. (decides-not .0 (and-left (not t) s e), q .0 (and-right (not t) s e)),
     λ f. and-both (not t) s (decides-not .1 (f .0)) (q .1 (f .1)),
   )
 
-  decides-fails : Decides t (¬ P)
+  pub decides-fails : Decides t (¬ P)
   decides-fails = (λ e h. never-both e (p .1 h), λ f. by-test t (λ e. e) (λ e. absurd (f (p .0 e))))
 
-decides-number : {t : Bool} {P : Type 0} (n k : ℕ) → eqb n k ≡ t → Decides t P → (n ≡ k) ↔ P
+pub decides-number : {t : Bool} {P : Type 0} (n k : ℕ) → eqb n k ≡ t → Decides t P → (n ≡ k) ↔ P
 decides-number n k e p = (λ h. p .0 (sym e ∙ eq-eqb n k h), λ h. eqb-true n k (e ∙ p .1 h))
 
 -- THE ORDER of the refusals
@@ -81,18 +81,18 @@ module _ {t : ℕ → Bool} {any : List ℕ → Bool} (a : Some t any) where
   none-of-all : {P : ℕ → Type 0} → ((l : ℕ) → (t l ≡ false) ↔ P l) → (ls : List ℕ) → (any ls ≡ false) ↔ Every P ls
   none-of-all p ls = (λ e. every-map ls (λ l. p l .0) (none-every a ls e), λ h. every-none ls (every-map ls (λ l. p l .1) h))
 
-below-test : (k n : ℕ) → (ltb k n ≡ false) ↔ (n ≤ k)
+pub below-test : (k n : ℕ) → (ltb k n ≡ false) ↔ (n ≤ k)
 below-test k n = (ltb-false k n, le-ltb k n)
 
-above-test : (k n : ℕ) → Decides (ltb k n) (k < n)
+pub above-test : (k n : ℕ) → Decides (ltb k n) (k < n)
 above-test k n = (ltb-true k n, lt-ltb k n)
 
-filled-test : (ls : List ℕ) → (member 0 ls ≡ false) ↔ Filled ls
+pub filled-test : (ls : List ℕ) → (member 0 ls ≡ false) ↔ Filled ls
 filled-test =
     none-of-all empty-some
     (λ l. (λ e. let n : l ≢ 0 = eqb-false l 0 e in omega arith, λ (h : 1 ≤ l). ne-eqb l 0 (λ z. omega arith)))
 
-short-test : (ls : List ℕ) → (some-above longest-code ls ≡ false) ↔ Short ls
+pub short-test : (ls : List ℕ) → (some-above longest-code ls ≡ false) ↔ Short ls
 short-test = none-of-all (long-some longest-code) (λ l. below-test longest-code l)
 
 boardable-test : (ls bs : List ℕ) → (no-board ls bs ≡ false) ↔ Boardable ls bs
@@ -109,11 +109,11 @@ boardable-test ls bs = (
       ∙ ap not (eq-eqb (sum ls) (length bs) (h .3)),
 )
 
-clean-test : (bs : List ℕ) → (has-control bs ≡ false) ↔ Clean bs
+pub clean-test : (bs : List ℕ) → (has-control bs ≡ false) ↔ Clean bs
 clean-test bs = (clean-bytes bs, bytes-clean bs)
 
 -- no code stands there twice: any two of them differ
-different-once : (ws : List (List ℕ)) → Different ws → twice ws ≡ false
+pub different-once : (ws : List (List ℕ)) → Different ws → twice ws ≡ false
 unfolding twice code
 different-once [] f = refl
 different-once (w ∷ ws) f =
@@ -121,7 +121,7 @@ different-once (w ∷ ws) f =
     fails (is-code ws w) (λ e. f 0 (suc (index ws w)) (omega arith) (omega (arith, index-below ws w e)) (sym (code-index ws w e))) in
     rw new (different-once ws (λ i j l h. f (suc i) (suc j) (omega arith) (omega arith)))
 
-different-test : (ws : List (List ℕ)) → (twice ws ≡ false) ↔ Different ws
+pub different-test : (ws : List (List ℕ)) → (twice ws ≡ false) ↔ Different ws
 different-test ws = (
   λ e i j l h same. omega (arith, l, number-at ws i e (omega (arith, l, h)), number-at ws j e h, ap (number ws) same),
   different-once ws,
@@ -154,7 +154,7 @@ module _ (P : ℕ → Type 0) where
   each-length (w ∷ ws) all zero h = all .0
   each-length (w ∷ ws) all (suc j) h = each-length ws (all .1) j (omega arith)
 
-  all-lengths : (ws : List (List ℕ)) → ((j : ℕ) → j < length ws → P (length (code ws j))) → Every P (map length ws)
+  pub all-lengths : (ws : List (List ℕ)) → ((j : ℕ) → j < length ws → P (length (code ws j))) → Every P (map length ws)
   unfolding code
   all-lengths [] f = tt
   all-lengths (w ∷ ws) f = (f 0 (omega arith), all-lengths ws (λ j h. f (suc j) (omega arith)))
@@ -167,16 +167,16 @@ module _ (P : ℕ → Type 0) where
         λ h. (h .0 .0, u .1 (h .0 .1, h .1)),
       )
 
-  each-code : (ws : List (List ℕ)) → Every P (joined ws) → (j : ℕ) → j < length ws → Every P (code ws j)
-  unfolding code joined
+  each-code : (ws : List (List ℕ)) → Every P (bytes-of ws) → (j : ℕ) → j < length ws → Every P (code ws j)
+  unfolding code bytes-of
   each-code [] all j h = absurd (omega arith)
-  each-code (w ∷ ws) all zero h = every-append w (joined ws) .0 all .0
-  each-code (w ∷ ws) all (suc j) h = each-code ws (every-append w (joined ws) .0 all .1) j (omega arith)
+  each-code (w ∷ ws) all zero h = every-append w (bytes-of ws) .0 all .0
+  each-code (w ∷ ws) all (suc j) h = each-code ws (every-append w (bytes-of ws) .0 all .1) j (omega arith)
 
-  all-codes : (ws : List (List ℕ)) → ((j : ℕ) → j < length ws → Every P (code ws j)) → Every P (joined ws)
-  unfolding code joined
+  pub all-codes : (ws : List (List ℕ)) → ((j : ℕ) → j < length ws → Every P (code ws j)) → Every P (bytes-of ws)
+  unfolding code bytes-of
   all-codes [] f = tt
-  all-codes (w ∷ ws) f = every-append w (joined ws) .1 (f 0 (omega arith), all-codes ws (λ j h. f (suc j) (omega arith)))
+  all-codes (w ∷ ws) f = every-append w (bytes-of ws) .1 (f 0 (omega arith), all-codes ws (λ j h. f (suc j) (omega arith)))
 
 -- accepted codes are those that preparing does not refuse where there is room
 roomy : (ls bs : List ℕ) → prepare-refusal ls bs 32768 ≡ codes-refusal ls bs
@@ -191,9 +191,9 @@ pub boards-accepted : Boards-accepted
 unfolding Boards-accepted Refusals-told accepted
 boards-accepted ws =
     let ls : List ℕ = map length ws in
-    let bs : List ℕ = joined ws in
+    let bs : List ℕ = bytes-of ws in
     let count : length ls ≡ length ws = length-map ws (λ (w : List ℕ). length w) in
-    let bytes : length bs ≡ total ws = length-joined ws in
+    let bytes : length bs ≡ total ws = length-bytes ws in
     let told = refusals-told ls bs 32768 .6 in (
       λ e.
           let f = told .0 (roomy ls bs ∙ eqb-true (codes-refusal ls bs) 0 e) in
@@ -206,7 +206,7 @@ boards-accepted ws =
               each-length (λ l. l ≤ 4000) ws (f .1 .0) j h,
               each-code (λ v. 32 ≤ v) ws (f .1 .1 .1 .0) j h,
             ),
-            rw (joined-cut ws) at (f .1 .1 .1 .1 .0),
+            rw (bytes-cut ws) at (f .1 .1 .1 .1 .0),
           ),
       λ f.
           eq-eqb (codes-refusal ls bs) 0
@@ -217,7 +217,7 @@ boards-accepted ws =
               all-lengths (λ l. l ≤ 4000) ws (λ j h. f .3 j h .1),
               (
                 (omega (arith, f .0, count), omega (arith, f .1, count), omega (arith, f .2, bytes), sum-lengths ws),
-                (all-codes (λ v. 32 ≤ v) ws (λ j h. f .3 j h .2), (rw (joined-cut ws) (f .4), omega arith)),
+                (all-codes (λ v. 32 ≤ v) ws (λ j h. f .3 j h .2), (rw (bytes-cut ws) (f .4), omega arith)),
               ),
             ),
           )),

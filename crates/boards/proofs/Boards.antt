@@ -15,45 +15,45 @@ use Rattle.automaton.specs.Costs.{sum}
 use Rattle.starts.specs.Starts.{total, shorter}
 use Rattle.sheets.specs.Sheet.{number, numbers}
 use Rattle.sheets.proofs.Layouts.{length-numbers}
-use Rattle.boards.specs.Board.{cut, joined, codes-refusal, accepted, link, nearest-at, row, rows-below, header, board}
+use Rattle.boards.specs.Board.{cut, bytes-of, codes-refusal, accepted, link, nearest-at, row, rows-below, header, board}
 use Rattle.boards.specs.Board.{pairs-of, named-lengths, named-bytes, named, begins}
 use Rattle.boards.specs.Tables.{Good}
 use Rattle.boards.specs.Entry.{prepare-refusal, prepare-answer, prepare-buffer}
 use Rattle.boards.specs.Promise.{Board-laid, Board-sized, Board-tells, Begins-right, Prepare-makes, Preparing-answers}
 use Rattle.codes.specs.Promise.{Answers-told}
 use Rattle.codes.proofs.Refusals.{none-of, answers-told}
-use Rattle.boards.proofs.Cuts.{cut-length, cut-total, cut-lengths, cut-joined}
-use Rattle.boards.proofs.Rows.{length-joined, length-rows, board-length}
+use Rattle.boards.proofs.Cuts.{cut-length, cut-total, cut-lengths, cut-bytes}
+use Rattle.boards.proofs.Rows.{length-bytes, length-rows, board-length}
 use Rattle.boards.proofs.Splices.{row-long}
 use Rattle.boards.proofs.Listing.{good-of, none-listed}
 
--- CODES JOINED AND CUT again: as many bytes as their lengths add up to, and they are the codes
-pub sum-lengths : (ws : List (List ℕ)) → sum (map length ws) ≡ length (joined ws)
-unfolding sum joined
+-- THE BYTES OF CODES, CUT again: as many bytes as their lengths add up to, and they are the codes
+pub sum-lengths : (ws : List (List ℕ)) → sum (map length ws) ≡ length (bytes-of ws)
+unfolding sum bytes-of
 sum-lengths [] = refl
-sum-lengths (w ∷ ws) = omega (arith, sum-lengths ws, length-append w (joined ws))
+sum-lengths (w ∷ ws) = omega (arith, sum-lengths ws, length-append w (bytes-of ws))
 
-pub joined-cut : (ws : List (List ℕ)) → cut (map length ws) (joined ws) ≡ ws
-unfolding cut joined
-joined-cut [] = refl
-joined-cut (w ∷ ws) =
-    let front = take-at w (joined ws) (length w) refl in
-    let behind = drop-at w (joined ws) (length w) refl in
-    rw (front, behind, joined-cut ws)
+pub bytes-cut : (ws : List (List ℕ)) → cut (map length ws) (bytes-of ws) ≡ ws
+unfolding cut bytes-of
+bytes-cut [] = refl
+bytes-cut (w ∷ ws) =
+    let front = take-at w (bytes-of ws) (length w) refl in
+    let behind = drop-at w (bytes-of ws) (length w) refl in
+    rw (front, behind, bytes-cut ws)
 
 -- ACCEPTED codes are those whose lengths and bytes are not refused
-accepted-none : (ws : List (List ℕ)) → accepted ws ≡ true → codes-refusal (map length ws) (joined ws) ≡ 0
+accepted-none : (ws : List (List ℕ)) → accepted ws ≡ true → codes-refusal (map length ws) (bytes-of ws) ≡ 0
 unfolding accepted
-accepted-none ws e = eqb-true (codes-refusal (map length ws) (joined ws)) 0 e
+accepted-none ws e = eqb-true (codes-refusal (map length ws) (bytes-of ws)) 0 e
 
-pub accepted-good : (ws : List (List ℕ)) → accepted ws ≡ true → Good (map length ws) (joined ws)
-accepted-good ws e = good-of (map length ws) (joined ws) (none-listed (map length ws) (joined ws) (accepted-none ws e) .0)
+pub accepted-good : (ws : List (List ℕ)) → accepted ws ≡ true → Good (map length ws) (bytes-of ws)
+accepted-good ws e = good-of (map length ws) (bytes-of ws) (none-listed (map length ws) (bytes-of ws) (accepted-none ws e) .0)
 
 accepted-cut : (ls bs : List ℕ) → codes-refusal ls bs ≡ 0 → accepted (cut ls bs) ≡ true
 unfolding accepted
 accepted-cut ls bs e =
     let sums : sum ls ≡ length bs = good-of ls bs (none-listed ls bs e .0) .sums in
-    rw (cut-lengths ls bs (omega (arith, sums)), cut-joined ls bs sums) (eq-eqb (codes-refusal ls bs) 0 e)
+    rw (cut-lengths ls bs (omega (arith, sums)), cut-bytes ls bs sums) (eq-eqb (codes-refusal ls bs) 0 e)
 
 -- numbers of two bytes are read back
 pairs-back : (ls xs : List ℕ) → pairs-of (length ls) (numbers 2 ls ++ xs) ≡ ls
@@ -72,9 +72,9 @@ module _ (ws : List (List ℕ)) (rest : List ℕ) where
   behind = map (shorter ws) ws ++ rows-below ws (suc (total ws)) ++ rest
 
   -- the first byte, the lengths, the codes
-  parts : board ws ++ rest ≡ length ws ∷ (numbers 2 lengths ++ (joined ws ++ behind))
+  parts : board ws ++ rest ≡ length ws ∷ (numbers 2 lengths ++ (bytes-of ws ++ behind))
   unfolding board header
-  parts = ap (λ (l : List ℕ). length ws ∷ l) (regroup (numbers 2 lengths) (joined ws) (map (shorter ws) ws) (rows-below ws (suc (total ws))) rest)
+  parts = ap (λ (l : List ℕ). length ws ∷ l) (regroup (numbers 2 lengths) (bytes-of ws) (map (shorter ws) ws) (rows-below ws (suc (total ws))) rest)
     where
       regroup : (a b c d e : List ℕ) → a ++ b ++ c ++ d ++ e ≡ a ++ (b ++ (c ++ d ++ e))
       regroup a b c d e = simp append-assoc
@@ -82,26 +82,26 @@ module _ (ws : List (List ℕ)) (rest : List ℕ) where
   -- so it names the lengths, the bytes and the codes
   board-lengths : named-lengths (board ws ++ rest) ≡ lengths
   unfolding named-lengths
-  board-lengths = rw (parts, ← length-map ws (λ (w : List ℕ). length w)) (pairs-back lengths (joined ws ++ behind))
+  board-lengths = rw (parts, ← length-map ws (λ (w : List ℕ). length w)) (pairs-back lengths (bytes-of ws ++ behind))
 
-  board-bytes : named-bytes (board ws ++ rest) ≡ joined ws
+  board-bytes : named-bytes (board ws ++ rest) ≡ bytes-of ws
   unfolding named-bytes
   board-bytes =
       let at : 1 + 2 * length ws ≡ suc (length (numbers 2 lengths)) =
       omega (arith, length-numbers 2 lengths, length-map ws (λ (w : List ℕ). length w)) in
-      rw (board-lengths, sum-lengths ws, parts, at, drop-append-seam (numbers 2 lengths) (joined ws ++ behind))
-      (take-append-seam (joined ws) behind)
+      rw (board-lengths, sum-lengths ws, parts, at, drop-append-seam (numbers 2 lengths) (bytes-of ws ++ behind))
+      (take-append-seam (bytes-of ws) behind)
 
   pub board-named : named (board ws ++ rest) ≡ ws
   unfolding named
-  board-named = rw (board-lengths, board-bytes) (joined-cut ws)
+  board-named = rw (board-lengths, board-bytes) (bytes-cut ws)
 
   -- and is accepted exactly if they are
   pub board-begins : begins (board ws ++ rest) ≡ accepted ws
   unfolding begins accepted
   board-begins =
       rw (board-named, board-lengths, board-bytes, eq-same (take-append-seam (board ws) rest))
-      (and-true (eqb (codes-refusal lengths (joined ws)) 0))
+      (and-true (eqb (codes-refusal lengths (bytes-of ws)) 0))
 
 -- ROWS: each is three bytes, at its place
 module _ (ws : List (List ℕ)) where
@@ -138,7 +138,7 @@ pub board-sized : Board-sized
 unfolding Board-sized
 board-sized ws = (
   omega (arith, board-length ws),
-  λ e. let g = accepted-good ws e in omega (arith, board-length ws, g .codes, g .bytes, length-joined ws, length-map ws (λ (w : List ℕ). length w)),
+  λ e. let g = accepted-good ws e in omega (arith, board-length ws, g .codes, g .bytes, length-bytes ws, length-map ws (λ (w : List ℕ). length w)),
 )
 
 -- A BUFFER THAT BEGINS with a board
@@ -193,6 +193,7 @@ preparing-answers ls bs a =
       answers-told n v .0,
       λ e.
           let s : sum ls ≡ length bs = prepare-sums ls bs (length a) e in
-          (answers-told n v .1 ∙ rw e (prepare-length ls bs s), cut-lengths ls bs (omega (arith, s)), cut-joined ls bs s),
+          (answers-told n v .1 ∙ rw e (prepare-length ls bs s), cut-lengths ls bs (omega (arith, s)), cut-bytes ls bs s),
       λ h. rw (ne-eqb n 0 h) refl,
+      λ q b. (λ s. (s .answers, s .leaves), λ s. record { answers = s .0; leaves = s .1 }),
     )

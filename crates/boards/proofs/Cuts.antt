@@ -10,7 +10,7 @@ use lib.Seq.{take-suc, drop-cons, getD-take, getD-drop, drop-drop, length-take-l
 use Rattle.automaton.specs.Costs.{sum}
 use Rattle.starts.specs.Starts.{code, total, offset, twice}
 use Rattle.starts.proofs.Codes.{twice-more}
-use Rattle.boards.specs.Board.{cut, joined}
+use Rattle.boards.specs.Board.{cut, bytes-of}
 use Rattle.boards.specs.Tables.{part}
 
 -- A PART: its length and its bytes
@@ -52,11 +52,11 @@ cut-lengths (l ∷ ls) bs h =
     let front : length (take l bs) ≡ l = length-take-le l bs (omega arith) in
     rw (front, cut-lengths ls (drop l bs) (omega (arith, length-drop l bs)))
 
-pub cut-joined : (ls bs : List ℕ) → sum ls ≡ length bs → joined (cut ls bs) ≡ bs
-unfolding cut joined sum
-cut-joined [] [] h = refl
-cut-joined [] (b ∷ bs) h = absurd (omega arith)
-cut-joined (l ∷ ls) bs h = rw (cut-joined ls (drop l bs) (omega (arith, length-drop l bs))) (take-append-drop l bs)
+pub cut-bytes : (ls bs : List ℕ) → sum ls ≡ length bs → bytes-of (cut ls bs) ≡ bs
+unfolding cut bytes-of sum
+cut-bytes [] [] h = refl
+cut-bytes [] (b ∷ bs) h = absurd (omega arith)
+cut-bytes (l ∷ ls) bs h = rw (cut-bytes ls (drop l bs) (omega (arith, length-drop l bs))) (take-append-drop l bs)
 
 -- code number j is the part of its length at its offset
 pub cut-code : (ls bs : List ℕ) (j : ℕ) → sum ls ≤ length bs → j < length ls → code (cut ls bs) j ≡ part (offset (cut ls bs) j) (getD ls j 0) bs

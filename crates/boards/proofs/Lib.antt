@@ -14,13 +14,16 @@ pub mod Taking
 pub mod Building
 pub mod Fitness
 pub mod Listing
-pub mod NamedLengths
+pub mod Naming
 pub mod Prepared
+pub mod Lacking
+pub mod Listed
 pub mod FirstBytes
 pub mod Calling
 pub mod Advancing
 pub mod Boards
 pub mod Accepting
 pub mod Running
+pub mod Joins
 pub mod Endings
 pub mod Calls

@@ -14,10 +14,10 @@ use Rattle.starts.proofs.States.{start-known, state-is-state}
 use Rattle.starts.proofs.Codes.{code-known, is-code-at, number-at}
 use Rattle.sheets.specs.Sheet as sheet
 use Rattle.sheets.proofs.Layouts.{length-numbers}
-use Rattle.boards.specs.Board.{cut, joined, link, nearest-at, row, rows-below, header, board}
+use Rattle.boards.specs.Board.{cut, bytes-of, link, nearest-at, row, rows-below, header, board}
 use Rattle.boards.specs.Tables.{Link-lists, All-linked}
 use Rattle.boards.specs.Written.{Spliced, Small, rows-in, On-board, Board-made}
-use Rattle.boards.proofs.Cuts.{cut-length, cut-total, cut-lengths, cut-joined}
+use Rattle.boards.proofs.Cuts.{cut-length, cut-total, cut-lengths, cut-bytes}
 use Rattle.boards.proofs.Splices.{spliced-sets, spliced-then, spliced-front, row-long}
 
 map-at : (f : List ℕ → ℕ) (ws : List (List ℕ)) (j : ℕ) → j < length ws → getD (map f ws) j 0 ≡ f (code ws j)
@@ -70,10 +70,10 @@ module _ {ws : List (List ℕ)} {k : Link-lists} (l : All-linked ws k) where
       getD-take (length ws) (k .shorter) j 0 below ∙ shorter-at once j below ∙ sym (map-at (shorter ws) ws j below))
 
 -- THE LENGTH of a board
-pub length-joined : (ws : List (List ℕ)) → length (joined ws) ≡ total ws
-unfolding joined total
-length-joined [] = refl
-length-joined (w ∷ ws) = omega (arith, length-append w (joined ws), length-joined ws)
+pub length-bytes : (ws : List (List ℕ)) → length (bytes-of ws) ≡ total ws
+unfolding bytes-of total
+length-bytes [] = refl
+length-bytes (w ∷ ws) = omega (arith, length-append w (bytes-of ws), length-bytes ws)
 
 pub length-rows : (ws : List (List ℕ)) (g : ℕ) → length (rows-below ws g) ≡ 3 * g
 unfolding rows-below row
@@ -84,7 +84,7 @@ header-length : (ws : List (List ℕ)) → length (header ws) ≡ 1 + 2 * length
 unfolding header
 header-length ws =
     let ls : List ℕ = map length ws in
-    omega (arith, length-append (sheet.numbers 2 ls) (joined ws), length-numbers 2 ls, length-map ws (λ (w : List ℕ). length w), length-joined ws)
+    omega (arith, length-append (sheet.numbers 2 ls) (bytes-of ws), length-numbers 2 ls, length-map ws (λ (w : List ℕ). length w), length-bytes ws)
 
 pub board-length : (ws : List (List ℕ)) → length (board ws) ≡ 1 + 2 * length ws + total ws + length ws + 3 * suc (total ws)
 unfolding board
@@ -122,7 +122,7 @@ module _ {ls bs : List ℕ} {k : Link-lists} {a : List ℕ} (o : On-board ls bs 
   -- its parts as they are written
   header-parts : header ws ≡ length ls ∷ (sheet.numbers 2 ls ++ bs)
   unfolding header
-  header-parts = rw (cut-length ls bs, cut-lengths ls bs (omega (arith, o .good .sums)), cut-joined ls bs (o .good .sums))
+  header-parts = rw (cut-length ls bs, cut-lengths ls bs (omega (arith, o .good .sums)), cut-bytes ls bs (o .good .sums))
 
   parts : board ws ≡ (length ls ∷ (sheet.numbers 2 ls ++ bs)) ++ take (length ls) (k .shorter) ++ rows-in (k .links) (k .nearest) (length bs + 1)
   unfolding board

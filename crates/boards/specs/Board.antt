@@ -16,9 +16,10 @@ unfoldable pub cut : (lengths bytes : List ℕ) → List (List ℕ)
 cut [] bs = []
 cut (l ∷ ls) bs = take l bs ∷ cut ls (drop l bs)
 
-unfoldable pub joined : (ws : List (List ℕ)) → List ℕ
-joined [] = []
-joined (w ∷ ws) = w ++ joined ws
+-- and the bytes in which some codes stand so
+unfoldable pub bytes-of : (ws : List (List ℕ)) → List ℕ
+bytes-of [] = []
+bytes-of (w ∷ ws) = w ++ bytes-of ws
 
 -- the most codes and bytes of a board, and the room that preparing asks for
 abbrev pub most-codes : ℕ
@@ -55,7 +56,7 @@ codes-refusal ls bs = first-refusal (list-refusal ls bs ∷ refused-if 11 (twice
 
 -- the codes that are accepted
 unfoldable pub accepted : (ws : List (List ℕ)) → Bool
-accepted ws = eqb (codes-refusal (map length ws) (joined ws)) 0
+accepted ws = eqb (codes-refusal (map length ws) (bytes-of ws)) 0
 
 -- THE LINKS of byte number g: if it is a state, its failure link and the number of the longest code that its start ends with; else 0
 unfoldable pub link : (ws : List (List ℕ)) → (g : ℕ) → ℕ
@@ -73,7 +74,7 @@ rows-below ws (suc g) = rows-below ws g ++ row ws g
 
 -- how many codes, the length of each, the codes; the longest shorter code that each ends with; and a row for 0 and for each byte of the codes
 unfoldable pub header : (ws : List (List ℕ)) → List ℕ
-header ws = length ws ∷ (sheet.numbers 2 (map length ws) ++ joined ws)
+header ws = length ws ∷ (sheet.numbers 2 (map length ws) ++ bytes-of ws)
 
 unfoldable pub board : (ws : List (List ℕ)) → List ℕ
 board ws = header ws ++ map (shorter ws) ws ++ rows-below ws (suc (total ws))

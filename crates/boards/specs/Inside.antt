@@ -1,22 +1,25 @@
--- What building, checking and feeding need and promise inside the crate. Assumes nothing: these are definitions.
+-- What building, checking, feeding and joining need and promise inside the crate. Assumes nothing: these are definitions.
 use mathlib.Core.Path.{_≡_}
 use mathlib.Core.Bool.{Bool, true, false, not}
-use mathlib.Core.List.{List, [], map}
+use mathlib.Core.List.{List, [], _++_, map}
 use mathlib.Core.Logic.{_≢_}
 use Prim.Native.Nat.{ℕ, _+_, _*_, _-_, _≤_, _<_}
 use lib.ListN.{length, getD, take, drop}
+use Rattle.automaton.specs.Costs.{sum}
 use Rattle.runs.specs.declared.Ending.the-variants.{Refused}
 use Rattle.runs.specs.Reading.{longest-text, fed-more}
+use Rattle.codes.specs.declared.Answer.{Answer}
 use Rattle.starts.specs.Starts.{code, known, total, state, start, is-code, twice, nearest, shorter}
 use Rattle.starts.specs.Hits.{Hit, hits-at}
 use Rattle.boards.specs.declared.Watch.{Watch}
 use Rattle.boards.specs.declared.Feeding.{Feeding}
-use Rattle.boards.specs.Board.{cut, list-refusal, pairs-of, named-lengths, named-bytes}
+use Rattle.boards.specs.Board.{cut, bytes-of, list-refusal, pairs-of, named-lengths, named-bytes, begins}
 use Rattle.boards.specs.Tables.{Good, Tree-lists, Roomy, Tree, Linked, Link-lists, All-linked}
 use Rattle.boards.specs.Written.{Spliced}
 use Rattle.boards.specs.Fronts.{Fronts}
 use Rattle.boards.specs.Feed.{fit, feed}
-use Rattle.boards.specs.Entry.{Lent, room, fed-call}
+use Rattle.boards.specs.Entry.{Prepare-says, Lent, room, fed-call}
+use Rattle.boards.specs.Join.{lacking}
 
 -- LISTS WITH NOTHING in them, with room for any board
 pub record Empty-lists (t : Tree-lists) (k : Link-lists) : Type 0 where
@@ -126,19 +129,65 @@ pub record Took (ws : List (List ℕ)) (x : Watch) (before : Lent) (answer : Fee
 abbrev pub refusing : (number : ℕ) → Watch → Feeding
 refusing n x = record { watch = x; taken = 0; written = 0; ending = Refused n }
 
--- A BUFFER THAT NAMES LENGTHS, and one that names codes by them
+-- A BUFFER THAT NAMES LENGTHS: the first k numbers of a list are the lengths that follow its first byte
+pub record Lengths-read (board : List ℕ) (k : ℕ) (a b : List ℕ) : Type 0 where
+  pub front : take k b ≡ pairs-of k (drop 1 board)
+  pub long : length b ≡ length a
+
 pub record On-lengths-of (board ls : List ℕ) : Type 0 where
   pub lengths-are : ls ≡ named-lengths board
   pub count-is : length ls ≡ getD board 0 0
   pub few : length ls ≤ 64
   pub room : 1 + 2 * length ls ≤ length board
 
+-- and codes that a board can have, which end there
+pub record Names (board : List ℕ) (end : ℕ) : Type 0 where
+  pub few : getD board 0 0 ≤ 64
+  pub end-is : end ≡ 1 + 2 * getD board 0 0 + sum (named-lengths board)
+  pub within : end ≤ length board
+  pub listed : list-refusal (named-lengths board) (named-bytes board) ≡ 0
+
+pub record Codes-end (board : List ℕ) (end : ℕ) : Type 0 where
+  pub none : end ≡ 0 → begins board ≡ false
+  pub some : end ≢ 0 → Names board end
+
+-- their lengths are read
+pub record Codes-read (board a b : List ℕ) (end : ℕ) : Type 0 where
+  pub ends : Codes-end board end
+  pub lengths-are : end ≢ 0 → take (getD board 0 0) b ≡ named-lengths board
+  pub long : length b ≡ length a
+
+-- and they are compared with their board
+pub record Board-read (board a b : List ℕ) (end : ℕ) : Type 0 where
+  pub none : end ≡ 0 → begins board ≡ false
+  pub some : end ≢ 0 → (begins board ≡ true) × Names board end × (take (getD board 0 0) b ≡ named-lengths board)
+  pub long : length b ≡ length a
+
 pub record On-named (board ls bs : List ℕ) : Type 0 where
   pub lengths-are : ls ≡ named-lengths board
   pub bytes-are : bs ≡ named-bytes board
   pub listed : list-refusal ls bs ≡ 0
 
--- the first k numbers of a list are the lengths that follow the buffer's first byte
-pub record Lengths-read (board : List ℕ) (k : ℕ) (a b : List ℕ) : Type 0 where
-  pub front : take k b ≡ pairs-of k (drop 1 board)
-  pub long : length b ≡ length a
+-- A LIST OF CODES in front of two lists: the lengths of so many codes, and their bytes up to an end
+pub record Listed (us : List (List ℕ)) (lengths bytes : List ℕ) (codes end : ℕ) : Type 0 where
+  pub codes-are : codes ≡ length us
+  pub end-is : end ≡ total us
+  pub lengths-are : take codes lengths ≡ map length us
+  pub bytes-are : take end bytes ≡ bytes-of us
+
+-- there is room for j more codes of n bytes together
+pub record Room-for (j n : ℕ) (lengths bytes : List ℕ) (codes end : ℕ) : Type 0 where
+  pub lengths-room : codes + j ≤ length lengths
+  pub bytes-room : end + n ≤ length bytes
+
+-- those of vs that ws lacks are listed behind the ones that were: a and c are the two lists before, b and d behind it
+pub record Lists (ws vs : List (List ℕ)) (a c : List ℕ) (codes end : ℕ) (b d : List ℕ) (codes′ end′ : ℕ) : Type 0 where
+  pub lists : (us : List (List ℕ)) → Listed us a c codes end → Listed (us ++ lacking ws vs) b d codes′ end′
+  pub codes-few : codes′ ≤ codes + length vs
+  pub end-few : end′ ≤ end + total vs
+  pub lengths-long : length b ≡ length a
+  pub bytes-long : length d ≡ length c
+
+-- THE CODES us ARE PREPARED
+abbrev pub Prepares : (us : List (List ℕ)) → Answer → (before after : List ℕ) → Type 0
+Prepares us r a b = Prepare-says (map length us) (bytes-of us) r a b

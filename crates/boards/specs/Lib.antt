@@ -4,6 +4,8 @@ pub mod Written
 pub mod Fronts
 pub mod Feed
 pub mod Entry
+pub mod Join
 pub mod Inside
 pub mod Promise
 pub mod Runs
+pub mod Joins

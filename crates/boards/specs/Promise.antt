@@ -8,13 +8,14 @@ use lib.ListN.{length, take, drop}
 use Rattle.words.specs.Words.{Every, in-front}
 use Rattle.runs.specs.Reading.{ending-refusal}
 use Rattle.automaton.specs.Costs.{sum}
+use Rattle.codes.specs.declared.Answer.{Answer}
 use Rattle.codes.specs.Refusals.{answer-refusal, answer-value}
 use Rattle.sheets.specs.Sheet as sheet
 use Rattle.starts.specs.Starts.{code, known, total, state, shorter}
 use Rattle.boards.specs.declared.Watch.{Watch}
-use Rattle.boards.specs.Board.{cut, joined, accepted, link, nearest-at, rows-below, board, named, begins}
+use Rattle.boards.specs.Board.{cut, bytes-of, accepted, link, nearest-at, rows-below, board, named, begins}
 use Rattle.boards.specs.Feed.{fit}
-use Rattle.boards.specs.Entry.{prepare-refusal, prepare-answer, prepare-buffer, Lent, feed-refusal, feed-call}
+use Rattle.boards.specs.Entry.{prepare-refusal, prepare-answer, prepare-buffer, Prepare-says, Lent, feed-refusal, feed-call}
 
 -- THE LAYOUT: the number of codes in one byte; the length of each in two, the high byte first; the codes; for each the number of the longest shorter code that
 -- it ends with; and a row for 0 and for each byte of the codes: its failure link in two bytes, and the number of the longest code that its start ends with
@@ -22,7 +23,7 @@ unfoldable pub Board-laid : Type 0
 Board-laid =
     (ws : List (List ℕ)) →
     (board ws
-    ≡ (length ws ∷ sheet.numbers 2 (map length ws)) ++ joined ws ++ map (shorter ws) ws ++ rows-below ws (suc (total ws)))
+    ≡ (length ws ∷ sheet.numbers 2 (map length ws)) ++ bytes-of ws ++ map (shorter ws) ws ++ rows-below ws (suc (total ws)))
     × ((v : ℕ) → sheet.number 2 v ≡ v / 256 ∷ v % 256 ∷ [])
     × ((g : ℕ) → g ≤ total ws →
     take 3 (drop (1 + 3 * length ws + total ws + 3 * g) (board ws)) ≡ link ws g / 256 ∷ link ws g % 256 ∷ nearest-at ws g ∷ [])
@@ -92,13 +93,14 @@ Prepare-makes =
     (accepted ws ≡ true) × (prepare-buffer ls bs a ≡ board ws ++ drop (length (board ws)) a)
 
 -- WHAT PREPARING ANSWERS: the refusal's number, and the buffer is as it was; or the board's length, 4 + 3k + 4N. The codes are those handed over, one after the
--- other
+-- other. That, and the buffer left so, is just what `prepare` promises of a call
 unfoldable pub Preparing-answers : Type 0
 Preparing-answers =
     (ls bs a : List ℕ) → let n = prepare-refusal ls bs (length a) in let r = prepare-answer ls bs (length a) in
     (answer-refusal r ≡ n)
-    × (n ≡ 0 → (answer-value r ≡ 4 + 3 * length ls + 4 * length bs) × (map length (cut ls bs) ≡ ls) × (joined (cut ls bs) ≡ bs))
+    × (n ≡ 0 → (answer-value r ≡ 4 + 3 * length ls + 4 * length bs) × (map length (cut ls bs) ≡ ls) × (bytes-of (cut ls bs) ≡ bs))
     × (n ≢ 0 → prepare-buffer ls bs a ≡ a)
+    × ((q : Answer) (b : List ℕ) → Prepare-says ls bs q a b ↔ ((q ≡ r) × (b ≡ prepare-buffer ls bs a)))
 
 -- number 4 comes up exactly where the buffer does not begin with the board of accepted codes; of the boards of codes, exactly for those that are not accepted
 unfoldable pub Boards-told : Type 0

@@ -23,7 +23,7 @@ fn put_lengths(lengths: &[u32], area: &mut [u8], at: usize)
 }
 
 // Puts bytes.
-fn put_bytes(bytes: &[u8], area: &mut [u8], at: usize)
+pub(crate) fn put_bytes(bytes: &[u8], area: &mut [u8], at: usize)
     requires { ⌜ at + length (now bytes) ≤ length (now area) ⌝ }
     ensures { λ r. ⌜ Spliced at (now (bytes .entry)) (now (area .entry)) (now (area .exit)) ⌝ }
 {

@@ -1,4 +1,5 @@
-// Boards (many codes in one pass, by the automaton of Aho and Corasick): preparing the board of 1 to 64 codes, and its watch. piece.rt has feeding.
+// Boards (many codes in one pass, by the automaton of Aho and Corasick): preparing the board of 1 to 64 codes, and its watch. piece.rt has feeding,
+// joining.rt two boards joined, and named.rt what both read of a board.
 ghost use mathlib.Core.Path.{_≡_};
 ghost use Prim.Native.Nat.{_≤_, _<_, min};
 ghost use lib.ListN.{length};
@@ -19,11 +20,14 @@ use codes::has_control;
 use runs::Ending;
 
 mod fronts;
+mod joining;
 mod layout;
 mod links;
+mod named;
 mod piece;
 mod tree;
 
+pub use joining::join;
 pub use piece::feed;
 
 // A board's watch (the state of a scan): the automaton's state, the bytes taken since the opening, and the hits.
@@ -57,7 +61,7 @@ pub struct Feeding {
     pub ending: Ending,
 }
 
-// The most codes of a board, the most bytes that they have together, and the room that preparing asks for.
+// The most codes of a board, the most bytes that they have together, and the room that preparing and joining ask for.
 pub const MOST_CODES: usize = 64;
 
 pub const MOST_BYTES: usize = 2000;

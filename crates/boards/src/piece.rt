@@ -1,16 +1,13 @@
 // Feeding: one pass over a piece of text, from the watch answered before to the next one, and the hits in two lists.
 ghost use mathlib.Core.Path.{_≡_};
-ghost use Prim.Native.Nat.{_+_, _*_, _≤_};
 ghost use lib.ListN.{length};
 ghost use Rattle.boards.specs.Board.{cut};
 ghost use Rattle.boards.specs.Tables.{tree, tables};
 ghost use Rattle.boards.specs.Entry.{lent, Feed-says};
 ghost use Rattle.boards.specs.Inside.{On-hits, Writes-hits, On-advance, Advances, Boarded, Ready, Took};
-ghost use Rattle.boards.specs.Inside.{On-fit, Told-fit, refusing, On-named, On-lengths-of, Lengths-read};
+ghost use Rattle.boards.specs.Inside.{On-fit, Told-fit, refusing, On-named};
 use crate::Feeding;
-use crate::MOST_CODES;
 use crate::Watch;
-use crate::add_up;
 use crate::build;
 use crate::fronts::enter;
 use crate::fronts::pass;
@@ -19,10 +16,9 @@ use crate::index;
 use crate::layout::write_board;
 use crate::least;
 use crate::links::step;
-use crate::list_refusal;
 use crate::long;
+use crate::named::read_codes;
 use runs::Ending;
-use sheets::pair;
 use sheets::same_front;
 use sheets::wide;
 
@@ -269,44 +265,6 @@ fn feed_codes(
     )
 }
 
-// Feeding with the lengths that the buffer names.
-fn feed_lengths(
-    board: &[u8],
-    lengths: &[u32],
-    watch: Watch,
-    piece: &[u8],
-    places: &mut [u32],
-    numbers: &mut [u32],
-) -> Feeding
-    requires { ⌜ On-lengths-of (now board) (now lengths) ⌝ }
-    ensures { λ r. ⌜
-        Feed-says (now (board .entry)) watch (lent (now (piece .entry)) (now (places .entry)) (now (numbers .entry))) r
-        (lent (now (piece .exit)) (now (places .exit)) (now (numbers .exit))) ⌝ }
-{
-    let start = 1 + 2 * lengths.len();
-    let end = start + add_up(lengths);
-    if board.len() < end {
-        return refused(4, watch);
-    }
-    let bytes = &board[start..end];
-    if list_refusal(lengths, bytes) != 0 {
-        return refused(4, watch);
-    }
-    feed_codes(board, lengths, bytes, watch, piece, places, numbers)
-}
-
-// Reads k lengths of two bytes each from the buffer's second byte on.
-fn read_lengths(board: &[u8], k: usize, lengths: &mut [u32])
-    requires { ⌜ (1 + 2 * k ≤ length (now board)) × (k ≤ length (now lengths)) ⌝ }
-    ensures { λ r. ⌜ Lengths-read (now (board .entry)) k (now (lengths .entry)) (now (lengths .exit)) ⌝ }
-{
-    let mut i = 0;
-    while i < k {
-        lengths[i] = pair(board[1 + 2 * i], board[2 + 2 * i]) as u32;
-        i += 1;
-    }
-}
-
 // Feeds a piece of text: with a board, whatever stands behind it, and the watch answered before. Each hit's place (the offset of the code's first byte, counted
 // from the opening) and, at the same spot of the second list, its code's number are written to the lists' starts, and the rest of the lists stays. A refusal
 // answers the watch as it was and changes nothing.
@@ -321,17 +279,19 @@ pub fn feed(
         Feed-says (now (board .entry)) watch (lent (now (piece .entry)) (now (places .entry)) (now (numbers .entry))) r
         (lent (now (piece .exit)) (now (places .exit)) (now (numbers .exit))) ⌝ }
 {
-    if board.len() == 0 {
+    let mut lengths = [0u32; 64];
+    let end = read_codes(board, &mut lengths);
+    if end == 0 {
         return refused(4, watch);
     }
     let k = wide(board[0]);
-    if MOST_CODES < k {
-        return refused(4, watch);
-    }
-    if board.len() < 1 + 2 * k {
-        return refused(4, watch);
-    }
-    let mut lengths = [0u32; 64];
-    read_lengths(board, k, &mut lengths);
-    feed_lengths(board, &lengths[0..k], watch, piece, places, numbers)
+    feed_codes(
+        board,
+        &lengths[0..k],
+        &board[1 + 2 * k..end],
+        watch,
+        piece,
+        places,
+        numbers,
+    )
 }

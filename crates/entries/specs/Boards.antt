@@ -1,4 +1,4 @@
--- The answers of preparing and feeding boards as plain numbers, for C. Assumes nothing: these are definitions.
+-- The answers of preparing, joining and feeding boards as plain numbers, for C. Assumes nothing: these are definitions.
 use mathlib.Core.Path.{_≡_}
 use mathlib.Core.List.{List}
 use Prim.Native.Nat.{ℕ}
@@ -7,6 +7,7 @@ use Rattle.runs.specs.Reading.{ending-refusal, ending-full}
 use Rattle.boards.specs.declared.Watch.{Watch}
 use Rattle.boards.specs.declared.Feeding.{Feeding}
 use Rattle.boards.specs.Entry.{prepare-answer, prepare-buffer, Lent, feed-call}
+use Rattle.boards.specs.Join.{join-answer, join-buffer}
 use Rattle.entries.specs.declared.PreparedNumbers.{PreparedNumbers}
 use Rattle.entries.specs.declared.board.HitNumbers.{HitNumbers}
 use Rattle.entries.specs.Numbers.{prepared-numbers}
@@ -15,6 +16,11 @@ use Rattle.entries.specs.Numbers.{prepared-numbers}
 pub record Board-told (lengths bytes : List ℕ) (answer : PreparedNumbers) (buffer buffer-after : List ℕ) : Type 0 where
   pub answers : answer ≡ prepared-numbers (prepare-answer lengths bytes (length buffer))
   pub leaves : buffer-after ≡ prepare-buffer lengths bytes buffer
+
+-- and `entries_join_boards` of its answer and of the third buffer
+pub record Joined-told (first second : List ℕ) (answer : PreparedNumbers) (buffer buffer-after : List ℕ) : Type 0 where
+  pub answers : answer ≡ prepared-numbers (join-answer first second (length buffer))
+  pub leaves : buffer-after ≡ join-buffer first second buffer
 
 -- a board's watch from its three numbers
 abbrev pub board-watch : (state taken hits : ℕ) → Watch

@@ -1,12 +1,13 @@
-// C entries over preparing and feeding boards, in numbers as those of a single code.
+// C entries over preparing, joining and feeding boards, in numbers as those of a single code.
 ghost use mathlib.Core.Path.{_≡_};
 ghost use Rattle.boards.specs.Entry.{lent};
-ghost use Rattle.entries.specs.Boards.{Board-told, board-watch, hit-numbers, Hits-told};
+ghost use Rattle.entries.specs.Boards.{Board-told, Joined-told, board-watch, hit-numbers, Hits-told};
 use crate::PreparedNumbers;
 use crate::prepared_numbers;
 use boards::Feeding;
 use boards::Watch;
 use boards::feed;
+use boards::join;
 use boards::prepare;
 
 // What feeding a board answers: the watch, the hits written and the bytes taken in this call, the refusal's number (0 for none), and whether a list is full
@@ -48,6 +49,18 @@ pub extern "C" fn entries_prepare_board(
     ensures { λ r. ⌜ Board-told (now (lengths .entry)) (now (bytes .entry)) r (now (buffer .entry)) (now (buffer .exit)) ⌝ }
 {
     prepared_numbers(prepare(lengths, bytes, buffer))
+}
+
+// Joins two boards.
+#[no_mangle]
+pub extern "C" fn entries_join_boards(
+    first: &[u8],
+    second: &[u8],
+    buffer: &mut [u8],
+) -> PreparedNumbers
+    ensures { λ r. ⌜ Joined-told (now (first .entry)) (now (second .entry)) r (now (buffer .entry)) (now (buffer .exit)) ⌝ }
+{
+    prepared_numbers(join(first, second, buffer))
 }
 
 // Feeds a piece of text to a board, with the watch of these three numbers.

@@ -1,64 +1,75 @@
--- `feed` meets its contract. A buffer that begins with a board names at most 64 lengths, and has them. Assumes nothing.
+-- `feed` meets its contract. The codes that the buffer names, if a board can have them, are lent to `feed_codes`. Assumes nothing.
 use native.Mathlib.Omega.{arith}
 use borrow.Author.Needs.{needs}
-use Rattle.boards.proofs.Calling.{says-none, begins-within, lengths-of}
+use Rattle.words.proofs.Tests.{never-both}
+use Rattle.boards.specs.Inside.{Names}
+use Rattle.boards.proofs.Naming.{named-of}
+use Rattle.boards.proofs.Calling.{says-none}
 use Rattle.boards.proofs.piece.feed.Statement.{statement}
 use Rattle.boards.proofs.piece.feed.Tie as tie
+
+-- where the lengths are read, and what came in
+abbrev read : tie.Else1 → tie.After-read-codes
+read c = c .before .before
+
+abbrev entry : tie.After-read-codes → tie.Start
+entry c = c .before .before .before .before .before .before
+
+-- past the test they are those of codes that a board can have
+names : (c : tie.Else1) → let r = read c in Names (entry r .args .board .now) (r .read-codes .result)
+names c = read c .read-codes .ensures .ends .some (c .if1 .left)
+
+slice-aggregate-read-codes : tie.Need-slice-aggregate-read-codes
+slice-aggregate-read-codes c = search needs
+
+read-codes-requires : tie.Need-read-codes-requires
+read-codes-requires c κs = search needs
 
 refused-requires : tie.Need-refused-requires
 refused-requires c κs = search needs
 
 returns : tie.Need-returns
-returns c = says-none _ _ _ _ (λ b. omega (arith, begins-within _ b .1, c .before .if1 .taken)) (c .refused .ensures)
+returns c =
+    let r = c .before .before .before in
+    says-none _ _ _ _ (λ b. never-both b (r .read-codes .ensures .ends .none (c .before .if1 .taken))) (c .refused .ensures)
 
 shared-slice-read-wide : tie.Need-shared-slice-read-wide
-shared-slice-read-wide c = search needs
+shared-slice-read-wide c = let n = names (c .before) in omega (arith, n .end-is, n .within)
 
 wide-requires : tie.Need-wide-requires
 wide-requires c κs = search needs
 
-refused-requires-2 : tie.Need-refused-requires-2
-refused-requires-2 c κs = search needs
+sub-feed-codes : tie.Need-sub-feed-codes
+sub-feed-codes c = search needs
 
-returns-2 : tie.Need-returns-2
-returns-2 c =
-    let w = c .before .before in
-    says-none _ _ _ _ (λ b. omega (arith, begins-within _ b .0, w .wide .ensures .0, c .before .if2 .taken)) (c .refused2 .ensures)
+part-feed-codes-start : tie.Need-part-feed-codes-start
+part-feed-codes-start c = search needs
 
-mul-if3 : tie.Need-mul-if3
-mul-if3 c = search needs
+part-feed-codes-end : tie.Need-part-feed-codes-end
+part-feed-codes-end c =
+    let e = c .before .before .before in
+    omega (arith, names e .few, c .before .wide .ensures .0, read e .read-codes .ensures .long)
 
-add-if3 : tie.Need-add-if3
-add-if3 c = search needs
+mul-feed-codes : tie.Need-mul-feed-codes
+mul-feed-codes c = search needs
 
-refused-requires-3 : tie.Need-refused-requires-3
-refused-requires-3 c κs = search needs
+add-feed-codes : tie.Need-add-feed-codes
+add-feed-codes c = search needs
 
-returns-3 : tie.Need-returns-3
-returns-3 c =
-    let w = c .before .before .before in
-    says-none _ _ _ _ (λ b. omega (arith, begins-within _ b .1, w .wide .ensures .0, c .before .if3 .taken)) (c .refused3 .ensures)
+sub-feed-codes-2 : tie.Need-sub-feed-codes-2
+sub-feed-codes-2 c = omega (arith, names (c .before .before .before .before) .end-is, c .before .before .wide .ensures .0)
 
-slice-aggregate-read-lengths : tie.Need-slice-aggregate-read-lengths
-slice-aggregate-read-lengths c = search needs
+part-feed-codes-start-2 : tie.Need-part-feed-codes-start-2
+part-feed-codes-start-2 c = omega (arith, names (c .before .before .before .before) .end-is, c .before .before .wide .ensures .0)
 
-read-lengths-requires : tie.Need-read-lengths-requires
-read-lengths-requires c κs = search needs
+part-feed-codes-end-2 : tie.Need-part-feed-codes-end-2
+part-feed-codes-end-2 c = names (c .before .before .before .before) .within
 
-sub-feed-lengths : tie.Need-sub-feed-lengths
-sub-feed-lengths c = search needs
-
-part-feed-lengths-start : tie.Need-part-feed-lengths-start
-part-feed-lengths-start c = search needs
-
-part-feed-lengths-end : tie.Need-part-feed-lengths-end
-part-feed-lengths-end c = search needs
-
-feed-lengths-requires : tie.Need-feed-lengths-requires
-feed-lengths-requires c κs =
-    let r = c .before .before .before .before .before in
-    let e = r .before .before in
-    lengths-of (e .before .before .wide .ensures .0) (e .before .if2 .left) (e .if3 .left) (r .read-lengths .ensures)
+feed-codes-requires : tie.Need-feed-codes-requires
+feed-codes-requires c κs =
+    let w = c .before .before .before .before .before in
+    let e = w .before .before in
+    named-of (names e) _ (read e .read-codes .ensures .lengths-are (e .if1 .left)) (w .wide .ensures .0)
 
 same-length : tie.Need-same-length
 same-length c = search needs
@@ -66,29 +77,28 @@ same-length c = search needs
 same-length-2 : tie.Need-same-length-2
 same-length-2 c = search needs
 
-returns-4 : tie.Need-returns-4
-returns-4 c = search needs
+returns-2 : tie.Need-returns-2
+returns-2 c = search needs
 
 pub feed-spec : {M : Type 1} → statement M
 feed-spec =
     tie.close
     (tie.spec
+    slice-aggregate-read-codes
+    read-codes-requires
     refused-requires
     returns
     shared-slice-read-wide
     wide-requires
-    refused-requires-2
-    returns-2
-    mul-if3
-    add-if3
-    refused-requires-3
-    returns-3
-    slice-aggregate-read-lengths
-    read-lengths-requires
-    sub-feed-lengths
-    part-feed-lengths-start
-    part-feed-lengths-end
-    feed-lengths-requires
+    sub-feed-codes
+    part-feed-codes-start
+    part-feed-codes-end
+    mul-feed-codes
+    add-feed-codes
+    sub-feed-codes-2
+    part-feed-codes-start-2
+    part-feed-codes-end-2
+    feed-codes-requires
     same-length
     same-length-2
-    returns-4)
+    returns-2)

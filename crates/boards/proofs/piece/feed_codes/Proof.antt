@@ -13,7 +13,8 @@ use Rattle.boards.specs.Inside.{Boarded}
 use Rattle.boards.proofs.Listing.{good-of}
 use Rattle.boards.proofs.Building.{not-built, all-built}
 use Rattle.boards.proofs.Prepared.{nothing-in}
-use Rattle.boards.proofs.Calling.{says-none, codes-twice, begins-as, links-for, says-unfit, says-full, says-over, says-took}
+use Rattle.boards.proofs.Naming.{codes-twice, begins-as}
+use Rattle.boards.proofs.Calling.{says-none, links-for, says-unfit, says-full, says-over, says-took}
 use Rattle.boards.proofs.piece.feed_codes.Statement.{statement}
 use Rattle.boards.proofs.piece.feed_codes.Tie as tie
 
@@ -44,7 +45,8 @@ to-write c = written c .before .before .before .before .before
 compared : (c : tie.After-same-front) → c .same-front .result ≡ begins (entry (built (to-write c)) .args .board .now)
 compared c =
     let e = to-write c in
-    begins-as (entry (built e) .pre) (boarded e .once) (written c .write-board .ensures) (c .same-front .ensures)
+    let m = written c .write-board .ensures in
+    begins-as (entry (built e) .pre) _ (boarded e .once) (m .size-is) (m .front) (c .same-front .ensures)
 
 -- past the second test the buffer begins with it
 abbrev came : tie.Else2 → tie.Start

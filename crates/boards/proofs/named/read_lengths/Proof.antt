@@ -3,9 +3,9 @@ use Prim.Native.Nat.{_-_, _≤_}
 use native.Mathlib.Omega.{arith}
 use borrow.Author.Needs.{needs}
 use Rattle.boards.specs.Inside.{Lengths-read}
-use Rattle.boards.proofs.NamedLengths.{lengths-start, lengths-turn, lengths-end}
-use Rattle.boards.proofs.piece.read_lengths.Statement.{statement}
-use Rattle.boards.proofs.piece.read_lengths.Tie as tie
+use Rattle.boards.proofs.Naming.{lengths-start, lengths-turn, lengths-end}
+use Rattle.boards.proofs.named.read_lengths.Statement.{statement}
+use Rattle.boards.proofs.named.read_lengths.Tie as tie
 
 abbrev Inv-loop : tie.InvT-loop
 Inv-loop board k lengths₀ i₀ lengths i = (i ≤ k) × Lengths-read board i lengths₀ lengths
