@@ -179,7 +179,7 @@ module _ (P : ℕ → Type 0) where
   all-codes (w ∷ ws) f = every-append w (bytes-of ws) .1 (f 0 (omega arith), all-codes ws (λ j h. f (suc j) (omega arith)))
 
 -- accepted codes are those that preparing does not refuse where there is room
-roomy : (ls bs : List ℕ) → prepare-refusal ls bs 32768 ≡ codes-refusal ls bs
+pub roomy : (ls bs : List ℕ) → prepare-refusal ls bs 32768 ≡ codes-refusal ls bs
 unfolding prepare-refusal
 roomy ls bs = alone (codes-refusal ls bs)
   where

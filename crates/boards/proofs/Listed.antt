@@ -65,7 +65,7 @@ module _ {ls bs w : List ℕ} {at i : ℕ} (k : Looking ls bs w at i) where
   look-end h = sym (k .left) ∙ rw (drop-of-length-le ls h) refl
 
 -- ONE CODE: it is one of the first codes and not listed, or it is listed behind the others
-bytes-more : (us : List (List ℕ)) (w : List ℕ) → bytes-of (us ++ (w ∷ [])) ≡ bytes-of us ++ w
+pub bytes-more : (us : List (List ℕ)) (w : List ℕ) → bytes-of (us ++ (w ∷ [])) ≡ bytes-of us ++ w
 unfolding bytes-of
 bytes-more [] w = append-nil w
 bytes-more (u ∷ us) w = rw (bytes-more us w, append-assoc u (bytes-of us) w) refl

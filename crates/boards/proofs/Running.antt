@@ -140,7 +140,7 @@ module _ (ws : List (List ℕ)) (rest : List ℕ) (good : accepted ws ≡ true) 
 
 -- A SEPARATE SEARCH for one of accepted codes
 module _ (ws : List (List ℕ)) (good : accepted ws ≡ true) where
-  apart : (j : ℕ) → j < length ws → (ts : List ℕ) → places-of (suc j) (hits ws ts) ≡ places (code ws j) ts
+  pub apart : (j : ℕ) → j < length ws → (ts : List ℕ) → places-of (suc j) (hits ws ts) ≡ places (code ws j) ts
   unfolding Boards-accepted found-after
   apart j h ts = separate ws (accepted-once ws good) (none-empty ws (λ i l. boards-accepted ws .0 good .3 i l .0)) j h ts
 

@@ -14,13 +14,15 @@ use Rattle.forms.specs.declared.Line.the-variants.{Opening, Wrong}
 use Rattle.forms.specs.Line.{goes-on}
 use Rattle.forms.specs.Text.{refused-form}
 use Rattle.forms.proofs.Lines.{read-over}
-use Rattle.find.specs.declared.Start.{Start}
+use Rattle.streams.specs.declared.Start.{Start}
 use Rattle.find.specs.declared.Progress.{Progress}
 use Rattle.find.specs.Printed.{line-refusal, line-sheet}
 use Rattle.find.specs.Output.{in-pieces, text-output, output-after, output, blank-code, blank-sheet}
-use Rattle.find.specs.Receipts.{Sent, Broken, Moved, May-follow}
-use Rattle.find.specs.Program.{Some-came, Sent-or-told, Line-on, Line-read, Search-on, Search-stopped, Searched, Complete, Stopped, Ran}
-use Rattle.find.proofs.Moving.{moved-none, moved-join, stopped-here, stopped-behind}
+use Rattle.streams.specs.Receipts.{Sent, Broken, Moved, May-follow}
+use Rattle.streams.specs.Streams.{Sent-or-told, Line-on, Line-read, Some-came}
+use Rattle.find.specs.Program.{Search-on, Search-stopped, Searched, Complete, Stopped, Ran}
+use Rattle.streams.proofs.Moving.{moved-none, moved-join}
+use Rattle.find.proofs.Stopping.{stopped-here, stopped-behind}
 
 -- a wrong line is refused
 refusal-wrong : (l : Line) (a : List ℕ) (k : ℕ) → line-refusal l a k ≡ 0 → l ≢ Wrong

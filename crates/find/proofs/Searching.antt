@@ -16,11 +16,13 @@ use Rattle.find.specs.declared.Printing.{Printing}
 use Rattle.find.specs.declared.Progress.{Progress}
 use Rattle.find.specs.Printed.{piece-size, is-last, piece-refusal, piece-fed, piece-form, Piece-written}
 use Rattle.find.specs.Output.{in-pieces, text-output}
-use Rattle.find.specs.Receipts.{Came, Ended, Sent, Told, unmoved, Moved, May-follow}
-use Rattle.find.specs.Program.{Some-came, Brought, Sent-or-told, Rises, Piece-sent, Piece-printed, Search-on, Search-stopped, Searched}
+use Rattle.streams.specs.Receipts.{Came, Ended, Sent, Told, unmoved, Moved, May-follow}
+use Rattle.streams.specs.Streams.{Brought, Sent-or-told, Rises, Some-came}
+use Rattle.find.specs.Program.{Piece-sent, Piece-printed, Search-on, Search-stopped, Searched}
 use Rattle.find.proofs.Pieces.{last-short}
 use Rattle.find.proofs.Texts.{in-pieces-last, in-pieces-more}
-use Rattle.find.proofs.Moving.{is-done, is-told, moved-none, moved-join, stopped-here, stopped-behind}
+use Rattle.streams.proofs.Moving.{is-done, is-told, moved-none, moved-join}
+use Rattle.find.proofs.Stopping.{stopped-here, stopped-behind}
 
 and-not : (a b : Bool) → b ≡ true → a && not b ≡ false
 and-not true b e = rw e

@@ -1,5 +1,4 @@
 pub mod Printed
 pub mod Output
 pub mod Promise
-pub mod Receipts
 pub mod Program

@@ -1,20 +1,17 @@
 // find: reads `(code X)`, a line feed and a text from standard input, and prints each place of X in the text, then what was counted.
-// `run` is the program, and its contract says what it does with the bytes that came. Only what the system did is left to reading, in system.rt. `came`
+// `run` is the program, and its contract says what it does with the bytes that came. Only what the system did is left to reading, in crates/streams. `came`
 // and `sent` count the bytes read and written, and nothing here looks at them.
-mod system;
-
 ghost use mathlib.Core.Path.{_≡_};
-ghost use mathlib.Core.Bool.{true, false};
+ghost use mathlib.Core.Bool.{false};
 ghost use Prim.Native.Nat.{_≤_};
 ghost use lib.ListN.{length, take};
 ghost use Rattle.finder.specs.Feed.{opened};
-ghost use Rattle.forms.specs.Line.{goes-on};
-ghost use Rattle.forms.specs.Text.{refused-form};
 ghost use Rattle.find.specs.Printed.{prepared-refusal, prepared-sheet, line-refusal, line-sheet, print-room, Piece-written};
-ghost use Rattle.find.specs.Program.{Rises, Got-into, Line-read, Sent-or-told, Piece-printed, Searched, Ran};
+ghost use Rattle.streams.specs.Streams.{Rises};
+ghost use Rattle.find.specs.Program.{Got-into, Piece-printed, Searched, Ran};
 use finder::Watch;
 use forms::Line;
-use system::Got;
+use streams::Got;
 
 // The bytes of a piece; fewer make the last one.
 const PIECE: usize = 4096;
@@ -34,7 +31,7 @@ fn read_full(came: &mut u64, buffer: &mut [u8]) -> Got
 {
     let mut n = 0;
     while n < buffer.len() {
-        let got = system::read_some(came, &mut buffer[n..]);
+        let got = streams::read_some(came, &mut buffer[n..]);
         match got {
             Got::Bytes(k) => {
                 if k == 0 {
@@ -46,62 +43,6 @@ fn read_full(came: &mut u64, buffer: &mut [u8]) -> Got
         }
     }
     Got::Bytes(n)
-}
-
-// The first line as far as it was read, whether more of it is to be read, and whether nothing failed.
-struct Start {
-    line: Line,
-    more: bool,
-    ok: bool,
-}
-
-// One more byte of the first line. An input that ends is not of the form.
-fn read_byte(came: &mut u64, line: Line, kept: &mut [u8; KEPT]) -> Start
-    requires { ⌜ goes-on line ≡ true ⌝ }
-    ensures { λ r. ⌜
-        Line-read line (now (kept .entry)) (now (came .entry)) r (now (kept .exit)) (now (came .exit))
-        × Rises (r .more) (now (came .entry)) (now (came .exit)) ⌝ }
-{
-    let mut one = [0u8; 1];
-    let got = system::read_some(came, &mut one);
-    match got {
-        Got::Bytes(n) => {
-            if n == 0 {
-                return Start {
-                    line: Line::Wrong,
-                    more: false,
-                    ok: true,
-                };
-            }
-            let next = forms::line_byte(line, one[0], kept);
-            Start {
-                line: next,
-                more: forms::goes_on(next),
-                ok: true,
-            }
-        }
-        Got::Failed => Start {
-            line: Line::Wrong,
-            more: false,
-            ok: false,
-        },
-    }
-}
-
-// The first line, a byte at a time, so that the text begins where the line ends. Each turn counts a byte that came: so it ends.
-fn read_line(came: &mut u64, kept: &mut [u8; KEPT]) -> Start
-    ensures { λ r. ⌜ (r .more ≡ false) × Line-read (Line.Opening 0) (now (kept .entry)) (now (came .entry)) r (now (kept .exit)) (now (came .exit)) ⌝ }
-{
-    let mut start = Start {
-        line: Line::Opening(0),
-        more: true,
-        ok: true,
-    };
-    while start.more {
-        let line = start.line;
-        start = read_byte(came, line, kept);
-    }
-    start
 }
 
 // Prepares the sheet of the first n bytes that were kept; the refusal, 0 for none, 8 if fewer were kept.
@@ -202,7 +143,7 @@ fn print_piece(
     let next = printing.watch;
     let more = printing.more;
     let k = printing.printed;
-    let sent_all = system::send(sent, &out[..k]);
+    let sent_all = streams::send(sent, &out[..k]);
     Progress {
         watch: next,
         more: more && sent_all,
@@ -256,22 +197,13 @@ fn search(sheet: &[u8], came: &mut u64, sent: &mut u64) -> Progress
     scan
 }
 
-// Prints a refusal as the only line.
-fn print_refusal(sent: &mut u64, number: u32) -> bool
-    ensures { λ r. ⌜ Sent-or-told (now (sent .entry)) (refused-form number) r (now (sent .exit)) ⌝ }
-{
-    let mut out = [0u8; 32];
-    let n = forms::put_refused(&mut out, 0, number);
-    system::send(sent, &out[..n])
-}
-
 // The program; whether it is complete.
 fn run(came: &mut u64, sent: &mut u64) -> bool
     requires { ⌜ (now came ≡ 0) × (now sent ≡ 0) ⌝ }
     ensures { λ r. ⌜ Ran r (now (came .exit)) (now (sent .exit)) ⌝ }
 {
     let mut kept = [0u8; KEPT];
-    let start = read_line(came, &mut kept);
+    let start = streams::read_line(came, Line::Opening(0), &mut kept);
     if !start.ok {
         return false;
     }
@@ -279,7 +211,7 @@ fn run(came: &mut u64, sent: &mut u64) -> bool
     let mut sheet = [0u8; SHEET];
     let number = prepare_line(line, &kept, &mut sheet);
     if number != 0 {
-        return print_refusal(sent, number);
+        return streams::print_refusal(sent, number);
     }
     let scan = search(&sheet, came, sent);
     scan.ok

@@ -75,7 +75,7 @@ unfolding decimal
 decimal-few n k h l = digits-few (suc n) n k h l
 
 -- the forms of numbers of 32 and 64 bits
-with-number-short : (bs : List ℕ) (n k : ℕ) → 1 ≤ k → n < 10 ^ k → length (bs ++ decimal n) ≤ length bs + k
+pub with-number-short : (bs : List ℕ) (n k : ℕ) → 1 ≤ k → n < 10 ^ k → length (bs ++ decimal n) ≤ length bs + k
 with-number-short bs n k h l = omega (arith, length-append bs (decimal n), decimal-few n k h l)
 
 form-short : (bs : List ℕ) (n : ℕ) → n < 2 ^ 32 → length (bs ++ decimal n ++ ascii ")\n") ≤ length bs + 12

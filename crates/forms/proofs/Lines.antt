@@ -15,7 +15,7 @@ use Rattle.words.proofs.Tests.{by-test, by-le, by-eq, and-left, and-right}
 use Rattle.forms.specs.declared.Line.{Line}
 use Rattle.forms.specs.declared.Line.the-variants.{Opening, Code, Closed, Done, Wrong}
 use Rattle.forms.specs.Line.{opening, closing-bracket, line-feed, of-code, depth-after, pairs, line-after, kept-after, goes-on, Read, read}
-use Rattle.forms.specs.Promise.{Lines-read, Others-refused}
+use Rattle.forms.specs.Promise.{Of-form, Lines-read, Others-refused}
 use Rattle.forms.proofs.Writing.{sets-out}
 use Rattle.forms.proofs.Pairs.{of-code-closing}
 
@@ -142,33 +142,34 @@ lines-read input code text kept f =
     ∙ code-read code text kept 0 0 zero-le (f .paired)
     ∙ ap (λ (k : ℕ). read-to (min k (length kept)) (sets kept 0 code) text) (zero-add (length code)))
 
--- NOTHING ELSE is: a line that is not wrong has the opening, a code, its bracket and a line feed
-closed-only : (n : ℕ) (a bs : List ℕ) → ((text : List ℕ) → bs ≡ line-feed ∷ text → ⊥) → read (Closed n) a bs .line ≡ Wrong
-closed-only n a [] h = ends-wrong (Closed n) a refl
-closed-only n a (b ∷ bs) h =
+-- NOTHING ELSE is. CASES: a line has its line feed behind the bracket, its code, its opening and so its form, or it is read to be wrong
+by-closed : {G : Type 0} (n : ℕ) (a bs : List ℕ) →
+    ((text : List ℕ) → bs ≡ line-feed ∷ text → G) → (read (Closed n) a bs .line ≡ Wrong → G) → G
+by-closed n a [] f w = w (ends-wrong (Closed n) a refl)
+by-closed n a (b ∷ bs) f w =
     by-eq b line-feed
-    (λ (e : b ≡ line-feed). absurd (h bs (ap (λ (c : ℕ). c ∷ bs) e)))
-    (λ (e : b ≢ line-feed). ap (λ (r : Read). r .line) (read-on b bs a (Closed n) Wrong a refl (line-wrong n b a e)) ∙ stays-wrong a bs)
+    (λ (e : b ≡ line-feed). f bs (ap (λ (c : ℕ). c ∷ bs) e))
+    (λ (e : b ≢ line-feed). w (ap (λ (r : Read). r .line) (read-on b bs a (Closed n) Wrong a refl (line-wrong n b a e)) ∙ stays-wrong a bs))
 
-code-only : (n d : ℕ) (a bs : List ℕ) →
-    ((code text : List ℕ) → pairs d code ≡ true → bs ≡ code ++ closing-bracket ∷ line-feed ∷ text → ⊥) → read (code-at n d) a bs .line ≡ Wrong
+by-code : {G : Type 0} (n d : ℕ) (a bs : List ℕ) →
+    ((code text : List ℕ) → pairs d code ≡ true → bs ≡ code ++ closing-bracket ∷ line-feed ∷ text → G) →
+    (read (code-at n d) a bs .line ≡ Wrong → G) → G
 unfolding pairs
-code-only n d a [] h = ends-wrong (code-at n d) a refl
-code-only n d a (b ∷ bs) h =
+by-code n d a [] f w = w (ends-wrong (code-at n d) a refl)
+by-code {G} n d a (b ∷ bs) f w =
     by-test (of-code d b)
     (λ (t : of-code d b ≡ true).
-    ap (λ (r : Read). r .line) (read-on b bs a (code-at n d) (code-at (kept-more n d b a) (depth-after d b)) (set a n b) refl (code-more n d b a t))
-    ∙ code-only (kept-more n d b a) (depth-after d b) (set a n b) bs (λ code text g w. h (b ∷ code) text (rw t g) (ap (λ (c : List ℕ). b ∷ c) w)))
-    (λ (t : of-code d b ≡ false). by-eq b closing-bracket (closes t) (breaks t))
+    by-code (kept-more n d b a) (depth-after d b) (set a n b) bs (λ code text g e. f (b ∷ code) text (rw t g) (ap (λ (c : List ℕ). b ∷ c) e))
+    (goes (code-at (kept-more n d b a) (depth-after d b)) (set a n b) (code-more n d b a t)))
+    (λ (t : of-code d b ≡ false). by-eq b closing-bracket (closes t) (λ e. goes Wrong a (code-wrong n d b a t e) (stays-wrong a bs)))
   where
-    closes : of-code d b ≡ false → b ≡ closing-bracket → read (code-at n d) a (b ∷ bs) .line ≡ Wrong
+    goes : (m : Line) (c : List ℕ) → After (code-at n d) b a m c → read m c bs .line ≡ Wrong → G
+    goes m c h e = w (ap (λ (r : Read). r .line) (read-on b bs a (code-at n d) m c refl h) ∙ e)
+
+    closes : of-code d b ≡ false → b ≡ closing-bracket → G
     closes t e =
         let none : d ≤ 0 = ltb-false 0 d (sym (of-code-closing d b e) ∙ t) in
-        ap (λ (r : Read). r .line) (read-on b bs a (code-at n d) (Closed n) a refl (code-closed n d b a t e))
-        ∙ closed-only n a bs (λ text f. h [] text (eq-eqb d 0 (omega arith)) (rw (e, f) refl))
-
-    breaks : of-code d b ≡ false → b ≢ closing-bracket → read (code-at n d) a (b ∷ bs) .line ≡ Wrong
-    breaks t e = ap (λ (r : Read). r .line) (read-on b bs a (code-at n d) Wrong a refl (code-wrong n d b a t e)) ∙ stays-wrong a bs
+        by-closed n a bs (λ text g. f [] text (eq-eqb d 0 (omega arith)) (rw (e, g) refl)) (goes (Closed n) a (code-closed n d b a t e))
 
 -- a byte of the opening, and what is behind it
 opening-split : (n b : ℕ) (bs rest : List ℕ) → n < 6 → getD opening n 0 ≡ b → bs ≡ drop (suc n) opening ++ rest → b ∷ bs ≡ drop n opening ++ rest
@@ -178,24 +179,34 @@ opening-goes : (n b : ℕ) (a bs : List ℕ) (m : Line) → line-after (length a
 unfolding kept-after
 opening-goes n b a bs m e = ap (λ (r : Read). r .line) (read-on b bs a (Opening n) m a refl (sym e, refl))
 
-opening-only : (k n : ℕ) (a bs : List ℕ) → n + suc k ≡ 6 →
-    ((rest : List ℕ) → bs ≡ drop n opening ++ rest → read (code-at 0 0) a rest .line ≡ Wrong) → read (Opening n) a bs .line ≡ Wrong
-opening-only k n a [] m h = ends-wrong (Opening n) a refl
-opening-only zero n a (b ∷ bs) m h =
+opening-breaks : (n b : ℕ) (a bs : List ℕ) → getD opening n 0 ≢ b → read (Opening n) a (b ∷ bs) .line ≡ Wrong
+opening-breaks n b a bs e = opening-goes n b a bs Wrong (opening-wrong (length a) n b e) ∙ stays-wrong a bs
+
+by-opening : {G : Type 0} (k n : ℕ) (a bs : List ℕ) → n + suc k ≡ 6 →
+    ((rest : List ℕ) → bs ≡ drop n opening ++ rest → G) → (read (Opening n) a bs .line ≡ Wrong → G) → G
+by-opening k n a [] m f w = w (ends-wrong (Opening n) a refl)
+by-opening zero n a (b ∷ bs) m f w =
     let last : n ≡ 5 = omega arith in
     by-eq (getD opening n 0) b
-    (λ (e : getD opening n 0 ≡ b).
-    opening-goes n b a bs (code-at 0 0) (opening-last (length a) n b last e) ∙ h bs (opening-split n b bs bs (omega arith) e (rw last refl)))
-    (λ (e : getD opening n 0 ≢ b). opening-goes n b a bs Wrong (opening-wrong (length a) n b e) ∙ stays-wrong a bs)
-opening-only (suc k) n a (b ∷ bs) m h =
+    (λ (e : getD opening n 0 ≡ b). f bs (opening-split n b bs bs (omega arith) e (rw last refl)))
+    (λ (e : getD opening n 0 ≢ b). w (opening-breaks n b a bs e))
+by-opening (suc k) n a (b ∷ bs) m f w =
     by-eq (getD opening n 0) b
     (λ (e : getD opening n 0 ≡ b).
-    opening-goes n b a bs (Opening (n + 1)) (opening-more (length a) n b (omega arith) e)
-    ∙ opening-only k (n + 1) a bs (omega arith) (λ rest f. h rest (opening-split n b bs rest (omega arith) e (rw (add-one n) at f))))
-    (λ (e : getD opening n 0 ≢ b). opening-goes n b a bs Wrong (opening-wrong (length a) n b e) ∙ stays-wrong a bs)
+    by-opening k (n + 1) a bs (omega arith) (λ rest g. f rest (opening-split n b bs rest (omega arith) e (rw (add-one n) at g)))
+    (λ h. w (opening-goes n b a bs (Opening (n + 1)) (opening-more (length a) n b (omega arith) e) ∙ h)))
+    (λ (e : getD opening n 0 ≢ b). w (opening-breaks n b a bs e))
+
+pub by-form : {G : Type 0} (input kept : List ℕ) →
+    ((code text : List ℕ) → Of-form input code text → G) → (read (Opening 0) kept input .line ≡ Wrong → G) → G
+by-form input kept f w =
+    by-opening 5 0 kept input refl
+    (λ rest e.
+    by-code 0 0 kept rest
+    (λ code text t g. f code text (record { whole = e ∙ ap (λ (l : List ℕ). opening ++ l) g; paired = t }))
+    (λ h. w (ap (λ (l : List ℕ). read (Opening 0) kept l .line) e ∙ ap (λ (r : Read). r .line) (opening-read kept rest) ∙ h)))
+    w
 
 pub others-refused : Others-refused
 unfolding Others-refused
-others-refused input kept h =
-    opening-only 5 0 kept input refl
-    (λ rest e. code-only 0 0 kept rest (λ code text t w. h code text (record { whole = e ∙ ap (λ (l : List ℕ). opening ++ l) w; paired = t })))
+others-refused input kept h = by-form input kept (λ code text f. absurd (h code text f)) (λ e. e)

@@ -4,8 +4,8 @@ use mathlib.Core.List.{List, [], _∷_, _++_, append-nil, append-assoc}
 use Prim.Native.Nat.{ℕ, suc, _+_, _*_, _-_, _≤_, _<_}
 use native.Mathlib.Omega.{arith}
 use native.Mathlib.Numerals.{add-one}
-use lib.ListN.{length, getD, take, set, length-append}
-use lib.Seq.{sets, set-out, length-sets, take-suc, take-all}
+use lib.ListN.{length, getD, take, drop, set, length-append}
+use lib.Seq.{sets, set-out, sets-eq, length-sets, length-take-le, take-append-seam, take-suc, take-all}
 use Rattle.words.proofs.Tests.{by-le}
 use Rattle.forms.specs.Text.{place-form, place-forms, Written}
 
@@ -49,6 +49,16 @@ written-on {bs} {cs} {a} {b} {c} {at} {mid} {end} f g =
         ∙ sets-out b mid cs (omega (arith, f .ends))
         ∙ f .has
         ∙ sym (sets-append a at bs cs ∙ sets-out (sets a at bs) (at + length bs) cs (omega (arith, length-sets a at bs)))
+
+-- WITH ROOM FOR ALL: they stand behind those before them
+pub written-behind : {bs a b : List ℕ} {at end : ℕ} → Written bs at a end b → at + length bs ≤ length a →
+    (take end b ≡ take at a ++ bs) × (end ≤ length b) × (length b ≡ length a)
+written-behind {bs} {a} {b} {at} {end} w h =
+    let e : end ≡ at + length bs = omega (arith, w .ends) in
+    let s : b ≡ take at a ++ bs ++ drop (at + length bs) a = w .has ∙ sets-eq bs a at h in
+    let n : length (take at a ++ bs) ≡ end = length-append (take at a) bs ∙ omega (arith, length-take-le at a (omega arith)) in
+    let size : length b ≡ length a = ap length (w .has) ∙ length-sets a at bs in
+    (rw (s, ← n) (take-append-seam (take at a ++ bs) (drop (at + length bs) a)), omega arith, size)
 
 -- A LIST of bytes, one by one
 pub bytes-next : (bs : List ℕ) (i : ℕ) {a b c : List ℕ} {at mid end : ℕ} → i < length bs →

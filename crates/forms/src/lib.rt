@@ -132,7 +132,7 @@ fn put_byte(buffer: &mut [u8], at: usize, byte: u8) -> usize
 }
 
 // Writes bytes from a place on, as many as have room; where they end.
-fn put(buffer: &mut [u8], at: usize, bytes: &[u8]) -> usize
+pub fn put(buffer: &mut [u8], at: usize, bytes: &[u8]) -> usize
     ensures { λ r. ⌜ Written (now (bytes .entry)) at (now (buffer .entry)) r (now (buffer .exit)) ⌝ }
 {
     let mut end = at;
@@ -145,7 +145,7 @@ fn put(buffer: &mut [u8], at: usize, bytes: &[u8]) -> usize
 }
 
 // Writes bytes and a number's decimal digits behind them.
-fn put_number(buffer: &mut [u8], at: usize, bytes: &[u8], n: u64) -> usize
+pub fn put_number(buffer: &mut [u8], at: usize, bytes: &[u8], n: u64) -> usize
     ensures { λ r. ⌜ Written (now (bytes .entry) ++ decimal n) at (now (buffer .entry)) r (now (buffer .exit)) ⌝ }
 {
     let mut digits = [0u8; 20];

@@ -4,8 +4,9 @@ use Prim.Native.Nat.{_-_, _≤_, zero-le}
 use native.Mathlib.Omega.{arith}
 use borrow.Author.Needs.{needs}
 use lib.ListN.{length, take}
-use Rattle.find.specs.Receipts.{Came, Moved}
-use Rattle.find.proofs.Moving.{moved-none, came-join, came-behind, none-behind}
+use Rattle.streams.specs.Receipts.{Came, Moved}
+use Rattle.streams.proofs.Moving.{moved-none}
+use Rattle.find.proofs.Stopping.{came-none, came-join, came-behind, none-behind}
 use Rattle.find.proofs.read_full.Statement.{statement}
 use Rattle.find.proofs.read_full.Tie as tie
 
@@ -80,7 +81,7 @@ returns-2 : tie.Need-returns-2 Inv-loop μ-loop
 returns-2 c =
     let r = c .before .before .before .before in
     let t = rw (c .enum-told .given .1) at (r .read-some .ensures) in
-    (t .0, came-join (at-turn r .loop .inv .2) (t .1))
+    (t .0, came-join (at-turn r .loop .inv .2) (came-none _ _ (t .1)))
 
 same-length-3 : tie.Need-same-length-3 Inv-loop μ-loop
 same-length-3 c = search needs

@@ -2,7 +2,7 @@
 use borrow.Author.Needs.{needs}
 use Rattle.finder.specs.Feed.{opened}
 use Rattle.find.specs.Program.{Searched}
-use Rattle.find.proofs.Moving.{turns-left, fewer-left}
+use Rattle.streams.proofs.Moving.{turns-left, fewer-left}
 use Rattle.find.proofs.Searching.{search-started, search-turned}
 use Rattle.find.proofs.search.Statement.{statement}
 use Rattle.find.proofs.search.Tie as tie

@@ -1,0 +1,17 @@
+pub mod Filing
+pub mod Saying
+pub mod Wording
+pub mod Parts
+pub mod Pieces
+pub mod Looks
+pub mod Lines
+pub mod Keeping
+pub mod Heading
+pub mod Plans
+pub mod Passing
+pub mod Stopping
+pub mod Sweeping
+pub mod Listing
+pub mod Running
+pub mod Answers
+pub mod Samples

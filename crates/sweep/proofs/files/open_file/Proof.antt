@@ -1,0 +1,80 @@
+-- `open_file` meets its contract: it makes the receipts. Assumes nothing.
+use mir.Syntax.{w32, w64}
+use mir.Val.{toZ, ofZ, SFits}
+use mir.Facts.{fits-natAbs, sfits-toZ, fits-ofZ}
+use Rattle.sweep.specs.Files.{make-asked, make-opened, make-missed}
+use Rattle.sweep.proofs.Filing.{not-below, open-failed, open-done}
+use borrow.Author.Needs.{needs}
+use Rattle.sweep.proofs.files.open_file.Statement.{statement}
+use Rattle.sweep.proofs.files.open_file.Tie as tie
+
+descriptor-requires : tie.Need-descriptor-requires
+descriptor-requires c κs = search needs
+
+close-requires : tie.Need-close-requires
+close-requires c κs = search needs
+
+slice-read-disk : tie.Need-slice-read-disk
+slice-read-disk c = search needs
+
+add-disk : tie.Need-add-disk
+add-disk c = search needs
+
+slice-write-disk : tie.Need-slice-write-disk
+slice-write-disk c = search needs
+
+slice-write-disk-2 : tie.Need-slice-write-disk-2
+slice-write-disk-2 c = search needs
+
+slice-write-disk-3 : tie.Need-slice-write-disk-3
+slice-write-disk-3 c = search needs
+
+same-length : tie.Need-same-length
+same-length c = search needs
+
+returns : tie.Need-returns
+returns c = open-failed _ _ (search needs) (λ k. make-asked k _) make-missed
+
+open-read-requires : tie.Need-open-read-requires
+open-read-requires c κs = search needs
+
+same-length-2 : tie.Need-same-length-2
+same-length-2 c = search needs
+
+returns-2 : tie.Need-returns-2
+returns-2 c = open-failed _ _ (search needs) (λ k. make-asked k _) make-missed
+
+cast-disk : tie.Need-cast-disk
+cast-disk c =
+    let fits : SFits w32 (c .before .open-read .result) = record { sfits = c .before .open-read .ok } in
+    (not-below (toZ w32 (ofZ w32 (c .before .open-read .result))) (c .if2 .left), fits-natAbs {w = w32} {w′ = w64} tt (sfits-toZ (fits-ofZ fits)))
+
+slice-write-disk-4 : tie.Need-slice-write-disk-4
+slice-write-disk-4 c = search needs
+
+same-length-3 : tie.Need-same-length-3
+same-length-3 c = search needs
+
+returns-3 : tie.Need-returns-3
+returns-3 c = open-done _ _ _ (search needs) (search needs) (λ k. make-asked k _) (λ k. make-opened k _)
+
+pub open-file-spec : {M : Type 1} → statement M
+open-file-spec =
+    tie.close
+    (tie.spec
+    descriptor-requires
+    close-requires
+    slice-read-disk
+    add-disk
+    slice-write-disk
+    slice-write-disk-2
+    slice-write-disk-3
+    same-length
+    returns
+    open-read-requires
+    same-length-2
+    returns-2
+    cast-disk
+    slice-write-disk-4
+    same-length-3
+    returns-3)

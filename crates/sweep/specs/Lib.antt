@@ -1,0 +1,9 @@
+pub mod Forms
+pub mod Files
+pub mod Saying
+pub mod Looking
+pub mod Lines
+pub mod Head
+pub mod Swept
+pub mod Program
+pub mod Promise
