@@ -1,11 +1,13 @@
 -- RECEIPTS for what the system did. No contract can say which bytes a call reads or writes, so these are shut names: anyone can state one, and its maker
--- below makes it. Each maker is for one proof of this crate, as tests/receipts sees: make-came and make-ended for `read_some`, make-sent for `send`,
--- make-told for `give_up`.
+-- below makes it. Each maker is for one proof of this crate, as tests/receipts sees, of a function that does nothing but call the system: make-came and
+-- make-ended for `read_input`, make-sent for `write_output`, make-heard for `write_error`.
 use mathlib.Core.Path.{_≡_}
 use mathlib.Core.List.{List, []}
 use Prim.Native.Nat.{ℕ, _+_, _^_, _≤_, _<_}
+use lib.IntN.{ℤ, pos}
 use lib.ListN.{length}
 use Rattle.words.specs.Words.{byte}
+use Rattle.forms.specs.Ascii.{ascii}
 
 -- byte i of the input is c: a read brought it when i bytes had come before it
 pub Came : (i c : ℕ) → Type 0
@@ -31,13 +33,28 @@ pub make-sent : (i c : ℕ) → Sent i c
 unfolding Sent
 make-sent i c = tt
 
--- standard error is told that the search is not complete
-pub Told : Type 0
-Told = Unit {0}
+-- these bytes were handed to standard error, whether or not anybody hears it
+pub Heard : (bytes : List ℕ) → Type 0
+Heard bs = Unit {0}
 
-pub make-told : Told
-unfolding Told
-make-told = tt
+pub make-heard : (bytes : List ℕ) → Heard bytes
+unfolding Heard
+make-heard bs = tt
+
+-- standard error is told that the search is not complete
+abbrev pub Told : Type 0
+Told = Heard (ascii "not complete: ")
+
+-- WHAT A READ ANSWERS, into a buffer, when `at` bytes had come: how many bytes it brought; none, if there is room for one, where the input ended; or a number
+-- below 0
+pub record Answered (Byte : ℕ → ℕ → Type 0) (End : ℕ → Type 0) (at : ℕ) (got : ℤ) (buffer : List ℕ) : Type 0 where
+  pub within : (k : ℕ) → got ≡ pos k → k ≤ length buffer
+  pub bytes : (k : ℕ) → got ≡ pos k → (i : ℕ) → i < k → Byte (at + i) (byte buffer i)
+  pub ends : got ≡ pos 0 → 1 ≤ length buffer → End at
+
+-- all bytes of a list were written when `at` bytes had been written before them
+abbrev pub All-sent : (at : ℕ) → (bytes : List ℕ) → Type 0
+All-sent at bs = (i : ℕ) → i < length bs → Sent (at + i) (byte bs i)
 
 -- the count of bytes sent went from `at` to `after`, and no write between them is known to be whole. Shut, so that no proof goes on behind it
 pub Broken : (at after : ℕ) → Type 0

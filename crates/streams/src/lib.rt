@@ -1,23 +1,44 @@
-// Standard input, output and error: what the programs share of speaking to the system, and the line with a code that their input begins with. What these
-// functions promise of bytes is by receipts, which their proofs make: whether they are true is read here. `came` and `sent` count the bytes read and written,
-// and no program looks at them.
+// Standard input, output and error: what the programs share of speaking to the system, and the line with a code that their input begins with. What is promised
+// of bytes that the system moved is by receipts. The proofs of the first three functions make them: whether they are true is read there, and what the system
+// answers is all that the others know. `came` and `sent` count the bytes read and written, and no program looks at them.
 ghost use mathlib.Core.Path.{_≡_};
 ghost use mathlib.Core.Bool.{true, false};
 ghost use Prim.Native.Nat.{min};
 ghost use lib.ListN.{length};
 ghost use Rattle.forms.specs.Line.{goes-on};
 ghost use Rattle.forms.specs.Text.{refused-form};
-ghost use Rattle.streams.specs.Receipts.{Told, Counted-on};
+ghost use Rattle.streams.specs.Receipts.{Came, Ended, Heard, Told, Answered, All-sent, Counted-on};
 ghost use Rattle.streams.specs.Streams.{Done-or-told, Read-into, Sent-or-told, Rises, Line-read};
 use forms::Line;
+
+// The system's read of standard input, of which `at` bytes have come.
+fn read_input(at: u64, part: &mut [u8]) -> isize
+    ensures { λ r. ⌜ Answered Came Ended at r (now (part .exit)) ⌝ }
+{
+    libc::read(libc::STDIN_FILENO, part)
+}
+
+// The system's writing to standard output, behind `at` bytes; whether all were written.
+fn write_output(at: u64, bytes: &[u8]) -> bool
+    ensures { λ r. ⌜ (r ≡ true → All-sent at (now (bytes .entry))) ⌝ }
+{
+    io::write_all(libc::STDOUT_FILENO, bytes)
+}
+
+// The system's writing to standard error.
+fn write_error(bytes: &[u8])
+    ensures { λ _. ⌜ Heard (now (bytes .entry)) ⌝ }
+{
+    io::write_all(libc::STDERR_FILENO, bytes);
+}
 
 // Says on standard error that the search is not complete. The output then has no end form.
 pub fn give_up(why: &[u8])
     ensures { λ _. ⌜ Told ⌝ }
 {
-    io::write_all(libc::STDERR_FILENO, b"not complete: ");
-    io::write_all(libc::STDERR_FILENO, why);
-    io::write_all(libc::STDERR_FILENO, b"\n");
+    write_error(b"not complete: ");
+    write_error(why);
+    write_error(b"\n");
 }
 
 // Moves a count of bytes on, unless it would wrap.
@@ -42,7 +63,7 @@ pub enum Got {
 pub fn read_some(came: &mut u64, part: &mut [u8]) -> Got
     ensures { λ r. ⌜ Read-into (min 1 (length (now (part .entry)))) (now (came .entry)) r (now (came .exit)) (now (part .exit)) ⌝ }
 {
-    let got = libc::read(libc::STDIN_FILENO, part);
+    let got = read_input(*came, part);
     if got < 0 {
         give_up(b"the input could not be read");
         return Got::Failed;
@@ -58,7 +79,7 @@ pub fn read_some(came: &mut u64, part: &mut [u8]) -> Got
 pub fn send(sent: &mut u64, bytes: &[u8]) -> bool
     ensures { λ r. ⌜ Sent-or-told (now (sent .entry)) (now (bytes .entry)) r (now (sent .exit)) ⌝ }
 {
-    if io::write_all(libc::STDOUT_FILENO, bytes) {
+    if write_output(*sent, bytes) {
         return count_on(sent, bytes.len());
     }
     give_up(b"the output could not be written");

@@ -7,6 +7,7 @@ use mathlib.Core.Logic.{_≢_, _↔_}
 use Prim.Native.Nat.{ℕ, suc, _≤_, _<_}
 use lib.ListN.{length, take, drop}
 use Rattle.words.specs.Words.{member, Rising}
+use Rattle.runs.specs.Reading.{longest-text}
 use Rattle.starts.specs.Starts.{code}
 use Rattle.starts.specs.Hits.{hits, places-of, Every-hit, Ordered}
 use Rattle.finder.specs.Texts.{places}
@@ -14,6 +15,8 @@ use Rattle.forms.specs.Ascii.{ascii}
 use Rattle.forms.specs.Text.{refused-form}
 use Rattle.boards.specs.Board.{accepted}
 use Rattle.streams.specs.Receipts.{May-follow}
+use Rattle.sweep.specs.Files.{longest-path}
+use Rattle.sweep.specs.Looking.{piece-most}
 use Rattle.sweep.specs.Head.{head-form, All-paired, No-head, head-refusal}
 use Rattle.sweep.specs.Swept.{Plan, listing, All-named, sweep-form}
 use Rattle.sweep.specs.Program.{All-swept, Complete}
@@ -64,13 +67,13 @@ Hits-stand =
     let w = code ws j in
     Rising ps × ((i : ℕ) → (member i ps ≡ true) ↔ (take (length w) (drop i text) ≡ w))
 
--- A SAMPLE: a head and a list of two paths, and what is printed for them, where the second file was not read
+-- A SAMPLE: a head and a list of two paths, and what is printed for them, where only the first two bytes of the second file could be read; and a refusal
 abbrev pub sample-codes : List (List ℕ)
 sample-codes = ascii "abaab" ∷ ascii "ab" ∷ []
 
 abbrev pub sample-plans : List Plan
 sample-plans =
-    record { path = ascii "first"; text = ascii "abaababaab"; whole = true } ∷ record { path = ascii "x"; text = []; whole = false } ∷ []
+    record { path = ascii "first"; text = ascii "abaababaab"; whole = true } ∷ record { path = ascii "x"; text = ascii "ab"; whole = false } ∷ []
 
 unfoldable pub Sample-swept : Type 0
 Sample-swept =
@@ -79,4 +82,9 @@ Sample-swept =
     × (listing sample-plans ≡ ascii "first" ++ 0 ∷ ascii "x" ++ 0 ∷ [])
     × (sweep-form sample-codes sample-plans
     ≡ ascii
-    "(hit 0 0 2)\n(hit 0 0 1)\n(hit 0 3 2)\n(hit 0 5 2)\n(hit 0 5 1)\n(hit 0 8 2)\n(unread 1)\n(end (files 2) (unread 1) (bytes 10) (hits 6))\n")
+    "(hit 0 0 2)\n(hit 0 0 1)\n(hit 0 3 2)\n(hit 0 5 2)\n(hit 0 5 1)\n(hit 0 8 2)\n(hit 1 0 2)\n(unread 1)\n(end (files 2) (unread 1) (bytes 12) (hits 7))\n")
+    × (refused-form 8 ≡ ascii "(refused 8)\n")
+
+-- THE LIMITS, in the documents' numbers: the longest text and path, and the bytes that are read at once
+unfoldable pub Limits-told : Type 0
+Limits-told = (longest-text ≡ 4294967295) × (longest-path ≡ 4095) × (piece-most ≡ 262144)

@@ -1,11 +1,20 @@
-// All that speaks to the system about files: opening and reading the one that is looked at. What these functions promise of bytes is by receipts, which their
-// proofs make: whether they are true is read here. `disk` holds the descriptor of the file that was opened last, or NONE if that opening failed or there was
-// none; how many openings there were; and how many of the file's bytes have come. Nothing else looks at it, so a read is of the file that was opened last, and
-// of no other.
+// All that speaks to the system about files: opening and reading the one that is looked at. What is promised of bytes is by receipts. The proofs of `open_path`
+// and `read_descriptor` make them: whether they are true is read there, and what the system answers is all that the others know. `disk` holds the descriptor of
+// the file that was opened last, or NONE if that opening failed or there was none; how many openings there were; and how many of the file's bytes have come.
+// Nothing else looks at it, so a read is of the file that was opened last, and of no other.
 ghost use mathlib.Core.Path.{_≡_};
 ghost use Prim.Native.Nat.{suc, _^_, _<_};
 ghost use lib.ListN.{length};
-ghost use Rattle.sweep.specs.Files.{openings, File-opened, File-read};
+ghost use Rattle.sweep.specs.Files.{
+  kept-of,
+  openings,
+  descriptor-of,
+  Path-opened,
+  Descriptor-read,
+  Is-open,
+  File-opened,
+  File-read,
+};
 use streams::Got;
 
 // The longest path that is opened.
@@ -17,11 +26,26 @@ pub const NONE: u64 = u64::MAX;
 // The descriptor of the file that was opened last, or -1, which the system neither reads nor closes.
 fn descriptor(disk: &[u64]) -> i32
     requires { ⌜ length (now disk) ≡ 3 ⌝ }
+    ensures { λ r. ⌜ r ≡ descriptor-of (kept-of (now (disk .entry))) ⌝ }
 {
     if disk[0] <= i32::MAX as u64 {
         return disk[0] as i32;
     }
     -1
+}
+
+// The system's opening of a path for reading, number k of the run.
+fn open_path(k: u64, path: &[u8]) -> i32
+    ensures { λ r. ⌜ Path-opened k (now (path .entry)) r ⌝ }
+{
+    os::open_read(path)
+}
+
+// The system's read of a descriptor: that of opening k, of whose file `at` bytes have come.
+fn read_descriptor(k: u64, at: u64, fd: i32, part: &mut [u8]) -> isize
+    ensures { λ r. ⌜ Descriptor-read k at fd r (now (part .exit)) ⌝ }
+{
+    libc::read(fd, part)
 }
 
 // Closes the file that was opened last, and opens the file of a path; whether that was possible.
@@ -36,7 +60,7 @@ pub fn open_file(disk: &mut [u64], path: &[u8]) -> bool
     if LONGEST_PATH < path.len() {
         return false;
     }
-    let fd = os::open_read(path);
+    let fd = open_path(disk[1], path);
     if fd < 0 {
         return false;
     }
@@ -46,10 +70,10 @@ pub fn open_file(disk: &mut [u64], path: &[u8]) -> bool
 
 // One read of the file that was opened last: none only where it ends, if there is room for one.
 pub fn read_file(disk: &mut [u64], part: &mut [u8]) -> Got
-    requires { ⌜ length (now disk) ≡ 3 ⌝ }
-    ensures { λ r. ⌜ File-read (now (disk .entry)) r (now (disk .exit)) (now (part .exit)) ⌝ }
+    requires { ⌜ (length (now disk) ≡ 3) × Is-open (now disk) ⌝ }
+    ensures { λ r. ⌜ File-read (now (disk .entry)) r (now (disk .exit)) (now (part .exit)) × Is-open (now (disk .exit)) ⌝ }
 {
-    let got = libc::read(descriptor(disk), part);
+    let got = read_descriptor(disk[1], disk[2], descriptor(disk), part);
     if got < 0 {
         return Got::Failed;
     }

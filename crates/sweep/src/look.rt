@@ -5,7 +5,7 @@ ghost use Prim.Native.Nat.{suc, _*_, _^_, _≤_, _<_};
 ghost use lib.ListN.{length, take};
 ghost use Rattle.boards.specs.Feed.{opened};
 ghost use Rattle.streams.specs.Streams.{Rises};
-ghost use Rattle.sweep.specs.Files.{openings, came-of};
+ghost use Rattle.sweep.specs.Files.{openings, came-of, Is-open};
 ghost use Rattle.sweep.specs.Looking.{Part-taken, Piece-taken, Looked, Path-looked};
 use crate::files::open_file;
 use crate::files::read_file;
@@ -155,11 +155,12 @@ fn look_on(
     used: usize,
     sent: &mut u64,
 ) -> Look
-    requires { ⌜ used ≤ length (now out) ⌝ }
+    requires { ⌜ (used ≤ length (now out)) × Is-open (now disk) ⌝ }
     ensures { λ r. ⌜
         Looked (now (board .entry)) file watch (now (disk .entry)) (now (sent .entry)) used (now (out .entry)) r (now (disk .exit)) (now (sent .exit))
         (now (out .exit))
-        × Rises (r .more) (came-of (now (disk .entry))) (came-of (now (disk .exit))) ⌝ }
+        × Rises (r .more) (came-of (now (disk .entry))) (came-of (now (disk .exit)))
+        × Is-open (now (disk .exit)) ⌝ }
 {
     let got = read_file(disk, piece);
     match got {
@@ -208,7 +209,7 @@ fn look_through(
     used: usize,
     sent: &mut u64,
 ) -> Look
-    requires { ⌜ used ≤ length (now out) ⌝ }
+    requires { ⌜ (used ≤ length (now out)) × Is-open (now disk) ⌝ }
     ensures { λ r. ⌜
         (r .more ≡ false)
         × Looked (now (board .entry)) file opened (now (disk .entry)) (now (sent .entry)) used (now (out .entry)) r (now (disk .exit)) (now (sent .exit))

@@ -3,7 +3,7 @@
 // `run` is the program, and its contract says what it does with the bytes that came. Only what the system did is left to reading, in crates/streams and
 // files.rt. `came` and `sent` count the bytes read and written, and nothing here looks at them.
 ghost use mathlib.Core.Path.{_≡_};
-ghost use Rattle.sweep.specs.Files.{openings};
+ghost use Rattle.sweep.specs.Files.{kept-of, openings, no-descriptor};
 ghost use Rattle.sweep.specs.Program.{Ran};
 
 mod files;
@@ -17,7 +17,7 @@ use crate::list::sweep_list;
 
 // The program; whether it is complete.
 fn run(disk: &mut [u64; 3], came: &mut u64, sent: &mut u64) -> bool
-    requires { ⌜ (openings (now disk) ≡ 0) × (now came ≡ 0) × (now sent ≡ 0) ⌝ }
+    requires { ⌜ (openings (now disk) ≡ 0) × (now came ≡ 0) × (now sent ≡ 0) × (kept-of (now disk) ≡ no-descriptor) ⌝ }
     ensures { λ r. ⌜ Ran r (now (came .exit)) (now (sent .exit)) ⌝ }
 {
     let mut board = [0u8; boards::ROOM];

@@ -1,12 +1,13 @@
--- `read_some` meets its contract: it makes the receipts. Assumes nothing.
+-- `read_some` meets its contract. By what the system answered. Assumes nothing.
 use mathlib.Core.Path.{refl}
-use Rattle.streams.specs.Receipts.{make-came, make-ended}
+use mir.Facts.{toZ-ofZ}
+use Rattle.streams.proofs.Answering.{got-bytes, got-none}
 use borrow.Author.Needs.{needs}
 use Rattle.streams.proofs.read_some.Statement.{statement}
 use Rattle.streams.proofs.read_some.Tie as tie
 
-read-requires : tie.Need-read-requires
-read-requires c κs = search needs
+read-input-requires : tie.Need-read-input-requires
+read-input-requires c κs = search needs
 
 slice-aggregate-give-up : tie.Need-slice-aggregate-give-up
 slice-aggregate-give-up c = search needs
@@ -31,12 +32,12 @@ same-length-2 c = search needs
 
 returns-2 : tie.Need-returns-2
 returns-2 c =
-    let size = c .before .before .before .count .ensures .0 .1 in
-    record {
-      within = search needs;
-      came = record { counted = rw (← size) (c .before .count-on .ensures .done (c .if2 .taken)); each = λ i h. make-came _ _ };
-      ends = λ h. make-ended _;
-    }
+    let n = c .before .before .before in
+    let t = n .before .before in
+    let r = t .before .before .before .read-input in
+    let counted = c .before .count-on .ensures .done (c .if2 .taken) in
+    let g = got-bytes (toZ-ofZ (record { sfits = r .ok })) (r .ensures) (t .if1 .left) (n .count .ensures .1) counted in
+    record { within = g .within; came = g .moved; ends = got-none g (search needs) }
 
 same-length-3 : tie.Need-same-length-3
 same-length-3 c = search needs
@@ -48,7 +49,7 @@ pub read-some-spec : {M : Type 1} → statement M
 read-some-spec =
     tie.close
     (tie.spec
-    read-requires
+    read-input-requires
     slice-aggregate-give-up
     give-up-requires
     same-length

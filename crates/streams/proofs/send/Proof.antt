@@ -1,21 +1,22 @@
--- `send` meets its contract: it makes the receipts. Assumes nothing.
+-- `send` meets its contract. By whether all was written. Assumes nothing.
 use mathlib.Core.Path.{refl}
-use Rattle.streams.specs.Receipts.{make-sent, unmoved}
+use Rattle.streams.specs.Receipts.{unmoved}
 use Rattle.streams.proofs.Moving.{is-told}
 use borrow.Author.Needs.{needs}
 use Rattle.streams.proofs.send.Statement.{statement}
 use Rattle.streams.proofs.send.Tie as tie
 
-write-all-requires : tie.Need-write-all-requires
-write-all-requires c κs = search needs
+write-output-requires : tie.Need-write-output-requires
+write-output-requires c κs = search needs
 
 count-on-requires : tie.Need-count-on-requires
 count-on-requires c κs = search needs
 
 returns : tie.Need-returns
 returns c =
+    let w = c .before .before in
     record {
-      done = λ e. record { counted = c .count-on .ensures .done e; each = λ i h. make-sent _ _ };
+      done = λ e. record { counted = c .count-on .ensures .done e; each = w .before .write-output .ensures (w .if1 .taken) };
       told = λ e. let t = c .count-on .ensures .told e in (t .0, unmoved _ _ (t .1));
     }
 
@@ -32,7 +33,7 @@ pub send-spec : {M : Type 1} → statement M
 send-spec =
     tie.close
     (tie.spec
-    write-all-requires
+    write-output-requires
     count-on-requires
     returns
     slice-aggregate-give-up

@@ -1,9 +1,9 @@
--- `open_file` meets its contract: it makes the receipts. Assumes nothing.
+-- `open_file` meets its contract. By what the system answered. Assumes nothing.
 use mir.Syntax.{w32, w64}
 use mir.Val.{toZ, ofZ, SFits}
-use mir.Facts.{fits-natAbs, sfits-toZ, fits-ofZ}
-use Rattle.sweep.specs.Files.{make-asked, make-opened, make-missed}
-use Rattle.sweep.proofs.Filing.{not-below, open-failed, open-done}
+use mir.Facts.{fits-natAbs, sfits-toZ, fits-ofZ, toZ-ofZ}
+use Rattle.sweep.specs.Files.{too-long}
+use Rattle.sweep.proofs.Filing.{not-below, open-failed, open-done, no-opening, an-opening}
 use borrow.Author.Needs.{needs}
 use Rattle.sweep.proofs.files.open_file.Statement.{statement}
 use Rattle.sweep.proofs.files.open_file.Tie as tie
@@ -33,21 +33,26 @@ same-length : tie.Need-same-length
 same-length c = search needs
 
 returns : tie.Need-returns
-returns c = open-failed _ _ (search needs) (λ k. make-asked k _) make-missed
+returns c = open-failed _ _ (search needs) (too-long _ _ (search needs))
 
-open-read-requires : tie.Need-open-read-requires
-open-read-requires c κs = search needs
+slice-read-open-path : tie.Need-slice-read-open-path
+slice-read-open-path c = search needs
+
+open-path-requires : tie.Need-open-path-requires
+open-path-requires c κs = search needs
 
 same-length-2 : tie.Need-same-length-2
 same-length-2 c = search needs
 
 returns-2 : tie.Need-returns-2
-returns-2 c = open-failed _ _ (search needs) (λ k. make-asked k _) make-missed
+returns-2 c =
+    let r = c .before .open-path in
+    open-failed _ _ (search needs) (no-opening (toZ-ofZ (record { sfits = r .ok })) (r .ensures) (c .if2 .taken))
 
 cast-disk : tie.Need-cast-disk
 cast-disk c =
-    let fits : SFits w32 (c .before .open-read .result) = record { sfits = c .before .open-read .ok } in
-    (not-below (toZ w32 (ofZ w32 (c .before .open-read .result))) (c .if2 .left), fits-natAbs {w = w32} {w′ = w64} tt (sfits-toZ (fits-ofZ fits)))
+    let fits : SFits w32 (c .before .open-path .result) = record { sfits = c .before .open-path .ok } in
+    (not-below (toZ w32 (ofZ w32 (c .before .open-path .result))) (c .if2 .left), fits-natAbs {w = w32} {w′ = w64} tt (sfits-toZ (fits-ofZ fits)))
 
 slice-write-disk-4 : tie.Need-slice-write-disk-4
 slice-write-disk-4 c = search needs
@@ -56,7 +61,10 @@ same-length-3 : tie.Need-same-length-3
 same-length-3 c = search needs
 
 returns-3 : tie.Need-returns-3
-returns-3 c = open-done _ _ _ (search needs) (search needs) (λ k. make-asked k _) (λ k. make-opened k _)
+returns-3 c =
+    let r = c .before .open-path in
+    let o = an-opening (toZ-ofZ (record { sfits = r .ok })) (r .ensures) (r .ok) (c .if2 .left) in
+    open-done _ _ (search needs) _ (o .0) (search needs) (r .ensures .asked) (o .1, o .2)
 
 pub open-file-spec : {M : Type 1} → statement M
 open-file-spec =
@@ -71,7 +79,8 @@ open-file-spec =
     slice-write-disk-3
     same-length
     returns
-    open-read-requires
+    slice-read-open-path
+    open-path-requires
     same-length-2
     returns-2
     cast-disk

@@ -18,7 +18,9 @@ returns c =
     (path-missed _ _ (c .before .before .before .before .before .before .pre .0) (f .open-file .ensures) (not-true _ (c .before .if1 .taken)))
 
 look-through-requires : tie.Need-look-through-requires
-look-through-requires c κs = search needs
+look-through-requires c κs =
+    let f = c .before .before .before .before .before .before in
+    (search needs, f .before .open-file .ensures .is-open (not-false _ (f .if1 .left)))
 
 returns-2 : tie.Need-returns-2
 returns-2 c =

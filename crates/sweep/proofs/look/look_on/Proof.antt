@@ -18,15 +18,15 @@ returns : tie.Need-returns
 returns c =
     let g = c .before .before in
     let q = g .before .before in
-    let r = rw (g .got .given .1) at (q .read-file .ensures) in
-    (look-ended _ _ _ (entry q .pre) (r .0) (r .1) (c .if1 .taken) (search needs), no-rise _ _)
+    let r = rw (g .got .given .1) at (q .read-file .ensures .0) in
+    (look-ended _ _ _ (entry q .pre .0) (r .0) (r .1) (c .if1 .taken) (search needs), no-rise _ _, q .read-file .ensures .1)
 
 take-piece-requires : tie.Need-take-piece-requires
 take-piece-requires c κs =
     let g = c .before .before .before .before .before .before .before .before in
     let q = g .before .before in
-    let r = rw (g .got .given .1) at (q .read-file .ensures) in
-    (r .1 .within, entry q .pre, search needs, search needs, search needs)
+    let r = rw (g .got .given .1) at (q .read-file .ensures .0) in
+    (r .1 .within, entry q .pre .0, search needs, search needs, search needs)
 
 enum-told : tie.Need-enum-told
 enum-told c = search needs
@@ -35,14 +35,15 @@ returns-2 : tie.Need-returns-2
 returns-2 c =
     let g = c .before .before .before .before .before .before .before .before .before in
     let q = g .before .before in
-    let r = rw (g .got .given .1) at (q .read-file .ensures) in
-    look-taken (r .0) (r .1) (c .before .before .before .before .before .before .before .if1 .left) (search needs) (c .take-piece .ensures)
+    let r = rw (g .got .given .1) at (q .read-file .ensures .0) in
+    let l = look-taken (r .0) (r .1) (c .before .before .before .before .before .before .before .if1 .left) (search needs) (c .take-piece .ensures) in
+    (l .0, l .1, q .read-file .ensures .1)
 
 returns-3 : tie.Need-returns-3
 returns-3 c =
     let q = c .before .before in
-    let r = rw (c .enum-told .given .1) at (q .read-file .ensures) in
-    (look-failed _ _ _ (entry q .pre) (r .0) (r .1) (r .2), no-rise _ _)
+    let r = rw (c .enum-told .given .1) at (q .read-file .ensures .0) in
+    (look-failed _ _ _ (entry q .pre .0) (r .0) (r .1) (r .2), no-rise _ _, q .read-file .ensures .1)
 
 pub look-on-spec : {M : Type 1} → statement M
 look-on-spec =
