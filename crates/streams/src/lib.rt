@@ -1,6 +1,7 @@
 // Standard input, output and error: what the programs share of speaking to the system, and the line with a code that their input begins with. What is promised
-// of bytes that the system moved is by receipts. The proofs of the first three functions make them: whether they are true is read there, and what the system
-// answers is all that the others know. `came` and `sent` count the bytes read and written, and no program looks at them.
+// of bytes that the system moved is by receipts, which the proofs of the first three functions make: these do nothing but call the system, and their contracts
+// say what each of its answers means. Whether that is true is read in them; what the other functions make of an answer is proved. `came` and `sent` count the
+// bytes read and written, and no program looks at them.
 ghost use mathlib.Core.Path.{_≡_};
 ghost use mathlib.Core.Bool.{true, false};
 ghost use Prim.Native.Nat.{min};

@@ -1,12 +1,12 @@
 -- The three numbers that are kept of the open file, and its descriptor. Assumes nothing.
-use mathlib.Core.Path.{_≡_, refl, sym, _∙_}
+use mathlib.Core.Path.{_≡_, refl, sym, ap, _∙_}
 use mathlib.Core.Bool.{true, false, true≢false}
 use mathlib.Core.List.{List, [], _∷_}
 use Prim.Native.Nat.{ℕ, _+_, _^_, _≤_, _<_}
 use native.Mathlib.Numerals.{add-one}
 use native.Mathlib.Omega.{arith}
 use lib.IntN.{ℤ, pos, negsuc, natAbs}
-use lib.Dec.{T, ltb}
+use lib.Dec.{T}
 use lib.ListN.{length, getD, set}
 use lib.Signed.{ltZ, nonNeg, mag}
 use mir.Syntax.{w32}
@@ -14,27 +14,10 @@ use mir.Val.{toZ}
 use mir.Facts.{toZ-pos}
 use borrow.Author.Tests.{ltb-true, lt-ltb, le-ltb}
 use Rattle.io.specs.Counts.{clamped}
-use Rattle.streams.specs.Receipts.{Counted-on}
+use Rattle.words.proofs.Tests.{by-le}
 use Rattle.streams.proofs.Answering.{Got-bytes, got-bytes}
-use Rattle.sweep.specs.Files.{
-  Asked,
-  Opened,
-  Given,
-  Held,
-  Over,
-  Missed,
-  kept-of,
-  openings,
-  came-of,
-  no-descriptor,
-  descriptor-of,
-  longest-path,
-  Path-opened,
-  Descriptor-read,
-  Is-open,
-  File-opened,
-  File-brought,
-}
+use Rattle.sweep.specs.Files.{Asked, Opened, Given, Held, Over, Missed, May-close, Path-opened, Descriptor-read, longest-path}
+use Rattle.sweep.specs.Files.{kept-of, openings, came-of, no-descriptor, descriptor-of, Holds, Is-open, File-opened, File-brought}
 
 -- a number that is not below 0
 pub not-below : (z : ℤ) → ltZ z (pos 0) ≡ false → T (nonNeg z)
@@ -58,6 +41,18 @@ descriptor-read n h = toZ-pos w32 h ∙ sym (descriptor-kept n h)
 
 pub descriptor-none : (n : ℕ) → 2147483648 ≤ n → negsuc 0 ≡ descriptor-of n
 descriptor-none n h = rw (le-ltb n 2147483648 h) refl
+
+-- WHAT MAY BE CLOSED: nothing, if none is kept
+pub holds-none : {d : List ℕ} → kept-of d ≡ no-descriptor → Holds d
+holds-none e = record { given = λ h. absurd (omega (arith, e)) }
+
+pub closes : (disk : List ℕ) {fd z : ℤ} → Holds disk → fd ≡ z → z ≡ descriptor-of (kept-of disk) → May-close (openings disk) fd
+closes disk h same kept d e =
+    let n : ℕ = kept-of disk in
+    let is : pos d ≡ descriptor-of n = sym e ∙ same ∙ kept in
+    by-le 2147483648 n
+    (λ high. absurd (true≢false (ap nonNeg (is ∙ sym (descriptor-none n high)))))
+    (λ low. let d-is : d ≡ n = ap natAbs (is ∙ descriptor-kept n low) in rw d-is (h .given low))
 
 -- ONE MORE OPENING, which failed or not
 abbrev pub one-more : (disk : List ℕ) → List ℕ

@@ -14,7 +14,7 @@ use Rattle.streams.proofs.Moving.{is-done, is-told, moved-none, moved-join}
 use Rattle.sweep.specs.declared.list.Sweep.{Sweep}
 use Rattle.sweep.specs.declared.list.Listing.{Listing}
 use Rattle.sweep.specs.Forms.{total-form}
-use Rattle.sweep.specs.Files.{openings}
+use Rattle.sweep.specs.Files.{Holds, openings}
 use Rattle.sweep.specs.Saying.{Said, Cut, Says}
 use Rattle.sweep.specs.Swept.{listing, All-named, All-right, files-form, unread-in, bytes-in, hits-in, sweep-form}
 use Rattle.sweep.specs.Swept.{Swept, Ready, Stopped, Listed-on}
@@ -131,8 +131,8 @@ finished-sent {s} n f e g =
 abbrev first-sweep : Sweep
 first-sweep = record { name = 0; files = 0; unread = 0; bytes = 0; hits = 0; used = 0; ok = true }
 
-pub first-ready : (disk out : List ℕ) → openings disk ≡ 0 → Ready first-sweep disk out
-first-ready disk out z = record { fine = refl; inside = zero-le; short = zero-le; opened = z; few = zero-le }
+pub first-ready : (disk out : List ℕ) → openings disk ≡ 0 → Holds disk → Ready first-sweep disk out
+first-ready disk out z h = record { fine = refl; inside = zero-le; short = zero-le; opened = z; holds = h; few = zero-le }
 
 first-swept : (ws : List (List ℕ)) (path : List ℕ) (sent : ℕ) (out : List ℕ) → sent ≡ 0 → Swept ws [] first-sweep path sent out
 unfolding listing All-named All-right files-form unread-in bytes-in hits-in

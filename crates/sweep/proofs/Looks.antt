@@ -14,9 +14,10 @@ use Rattle.streams.specs.Streams.{Rises}
 use Rattle.streams.proofs.Moving.{moved-none, moved-join}
 use Rattle.sweep.specs.declared.look.Look.{Look}
 use Rattle.sweep.specs.Forms.{hit-forms}
-use Rattle.sweep.specs.Files.{Held, Missed, openings, came-of, File-opened, File-brought}
+use Rattle.sweep.specs.Files.{Held, Missed, openings, came-of, Is-open, File-opened, File-brought}
 use Rattle.sweep.specs.Saying.{Says}
 use Rattle.sweep.specs.Looking.{piece-most, Piece-taken, Looked, Path-looked}
+use Rattle.sweep.proofs.Filing.{holds-none}
 use Rattle.sweep.proofs.Saying.{says-none, says-join}
 use Rattle.sweep.proofs.Wording.{hits-append}
 use Rattle.sweep.proofs.Parts.{goes-none, goes-join}
@@ -143,6 +144,7 @@ path-missed buffer file {after = after} {from} {u} {a} h f t =
       left = [];
       told = [];
       next = f .next;
+      holds = holds-none (f .shut t);
       asked = f .asked;
       goes = goes-none buffer opened;
       came = rw (f .none) (moved-none (Held (openings after)) 0);
@@ -152,15 +154,16 @@ path-missed buffer file {after = after} {from} {u} {a} h f t =
     }
 
 pub path-looked : {buffer : List ℕ} {file : ℕ} {path disk via after : List ℕ} {from u to : ℕ} {a b : List ℕ} {r : Look} {t : Bool} →
-    File-opened path disk t via → t ≡ true → r .more ≡ false → Looked buffer file opened via from u a r after to b →
+    File-opened path disk t via → t ≡ true → r .more ≡ false → Looked buffer file opened via from u a r after to b → Is-open after →
     Path-looked buffer file path disk from u a r after to b
-path-looked {via = via} {after} f t m g =
+path-looked {via = via} {after} f t m g i =
     let opened-as = f .opens t in
     record {
       bytes = g .bytes;
       left = g .left;
       told = g .told;
       next = g .same ∙ f .next;
+      holds = record { given = λ _. i .given };
       asked = rw (g .same) (f .asked);
       goes = g .goes;
       came = rw (g .same) (subst (λ (n : ℕ). Moved (Held (openings via)) n (came-of after) (g .bytes ++ g .left)) (f .none) (g .came));

@@ -218,6 +218,7 @@ module _ (path : List ℕ) {s : Sweep} {look : Look} {mid : ℕ} {b : List ℕ} 
               inside = q .inside;
               short = omega (arith, q .name);
               opened = omega (arith, p .next, h .opened, q .files);
+              holds = p .holds;
               few = q .few;
             };
         lists = λ ws list on v.
@@ -236,7 +237,7 @@ module _ (s : Sweep) (n : ℕ) where
       (buffer : List ℕ) (from : ℕ) → Listed-on buffer (c ∷ []) s path from a with-name path-after disk from a
   byte-listed c z h k buffer from =
       record {
-        ready = λ e. record { fine = refl; inside = h .inside; short = k .short; opened = h .opened; few = h .few };
+        ready = λ e. record { fine = refl; inside = h .inside; short = k .short; opened = h .opened; holds = h .holds; few = h .few };
         lists = λ ws list on v.
             is-done
             (record {

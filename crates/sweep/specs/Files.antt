@@ -1,6 +1,6 @@
 -- RECEIPTS for what the system did with files, as those of crates/streams are for standard input and output: shut names, and makers. Those that ask for
 -- nothing are for the proofs of two functions of src/files.rt that do nothing but call the system: make-asked, make-opened, make-given and make-missed for
--- `open_path`; make-held, make-over and make-missed for `read_descriptor`. Assumes nothing: these are definitions.
+-- `open_path`; make-held, make-over and make-missed for `read_descriptor`. A third, `close_descriptor`, asks for one. Assumes nothing: these are definitions.
 use mathlib.Core.Path.{_≡_}
 use mathlib.Core.Bool.{Bool, true, false, cond}
 use mathlib.Core.List.{List}
@@ -78,7 +78,11 @@ pub record Path-opened (k : ℕ) (path : List ℕ) (got : ℤ) : Type 0 where
   pub opens : (d : ℕ) → got ≡ pos d → Opened k path × Given k d
   pub fails : (j : ℕ) → got ≡ negsuc j → Missed k
 
--- WHAT A READ of a descriptor ANSWERS, if it is the one that opening k answered, and `at` bytes of its file had come
+-- WHAT MAY BE CLOSED: the descriptor that opening k answered, or none
+abbrev pub May-close : (k : ℕ) → (fd : ℤ) → Type 0
+May-close k fd = (d : ℕ) → fd ≡ pos d → Given k d
+
+-- WHAT A READ of a descriptor ANSWERS, if it is the one that opening k answered, and has not been closed, and `at` bytes of its file had come
 pub record Descriptor-read (k at : ℕ) (fd got : ℤ) (buffer : List ℕ) : Type 0 where
   pub answered : (d : ℕ) → fd ≡ pos d → Given k d → Answered (Held k) (Over k) at got buffer
   pub fails : (d : ℕ) → fd ≡ pos d → Given k d → (j : ℕ) → got ≡ negsuc j → Missed k
@@ -100,6 +104,10 @@ no-descriptor = 18446744073709551615
 
 abbrev pub descriptor-of : (kept : ℕ) → ℤ
 descriptor-of n = cond (ltb n 2147483648) (pos n) (negsuc 0)
+
+-- IT HOLDS no descriptor but the one that the last opening answered
+pub record Holds (disk : List ℕ) : Type 0 where
+  pub given : kept-of disk < 2147483648 → Given (openings disk) (kept-of disk)
 
 -- IT IS OPEN: the descriptor kept is the one that the last opening answered
 pub record Is-open (disk : List ℕ) : Type 0 where

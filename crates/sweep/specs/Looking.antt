@@ -14,7 +14,7 @@ use Rattle.boards.specs.Entry.{Lent, room, feed-refusal, feeding}
 use Rattle.sweep.specs.declared.look.Part.{Part}
 use Rattle.sweep.specs.declared.look.Look.{Look}
 use Rattle.sweep.specs.Forms.{hit-forms}
-use Rattle.sweep.specs.Files.{Asked, Opened, Held, Over, Missed, openings, came-of, longest-path}
+use Rattle.sweep.specs.Files.{Asked, Opened, Held, Over, Missed, Holds, openings, came-of, longest-path}
 use Rattle.sweep.specs.Saying.{Says}
 use Rattle.streams.specs.Receipts.{Moved}
 
@@ -90,6 +90,7 @@ pub record Path-looked
   pub left : List ℕ
   pub told : List Hit
   pub next : openings disk-after ≡ suc (openings disk)
+  pub holds : Holds disk-after
   pub asked : Asked (openings disk-after) path
   pub goes : Goes buffer opened bytes told (r .watch)
   pub came : Moved (Held (openings disk-after)) 0 (came-of disk-after) (bytes ++ left)

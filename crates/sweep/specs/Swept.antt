@@ -13,7 +13,7 @@ use Rattle.streams.specs.Streams.{Done-or-told, Prefix-of}
 use Rattle.sweep.specs.declared.look.Look.{Look}
 use Rattle.sweep.specs.declared.list.Sweep.{Sweep}
 use Rattle.sweep.specs.Forms.{hit-forms, unread-form, total-form}
-use Rattle.sweep.specs.Files.{Asked, Opened, Held, Over, Missed, openings, longest-path}
+use Rattle.sweep.specs.Files.{Asked, Opened, Held, Over, Missed, Holds, openings, longest-path}
 use Rattle.sweep.specs.Saying.{Said, Cut, Says}
 use Rattle.sweep.specs.Looking.{On-board, piece-most}
 
@@ -117,13 +117,14 @@ pub record Swept (ws : List (List ℕ)) (list : List ℕ) (s : Sweep) (path : Li
   pub hits-are : s .hits ≡ hits-in ws plans
   pub said : Said sent (s .used) out (files-form ws 0 plans)
 
--- ONE THAT IS TO GO ON: nothing failed, the bytes gathered and the name are in their buffers, each file passed is an opening, and no more are unread than
--- were passed
+-- ONE THAT IS TO GO ON: nothing failed, the bytes gathered and the name are in their buffers, each file passed is an opening, no descriptor is kept but the
+-- last one's, and no more are unread than were passed
 pub record Ready (s : Sweep) (disk out : List ℕ) : Type 0 where
   pub fine : s .ok ≡ true
   pub inside : s .used ≤ length out
   pub short : s .name ≤ suc longest-path
   pub opened : openings disk ≡ s .files
+  pub holds : Holds disk
   pub few : s .unread ≤ s .files
 
 -- A FILE PASSED after a look at it: it is counted, and said to be unread if it was not read to its end

@@ -1,20 +1,12 @@
-// All that speaks to the system about files: opening and reading the one that is looked at. What is promised of bytes is by receipts. The proofs of `open_path`
-// and `read_descriptor` make them: whether they are true is read there, and what the system answers is all that the others know. `disk` holds the descriptor of
-// the file that was opened last, or NONE if that opening failed or there was none; how many openings there were; and how many of the file's bytes have come.
-// Nothing else looks at it, so a read is of the file that was opened last, and of no other.
+// All that speaks to the system about files: opening, reading and closing the one that is looked at. What is promised of its bytes is by receipts, which the
+// proofs of `open_path` and `read_descriptor` make: these do nothing but call the system, and their contracts say what each of its answers means. Whether that
+// is true is read in them; what the other functions make of an answer is proved. `disk` holds the descriptor of the file that was opened last, or NONE if that
+// opening failed or there was none; how many openings there were; and how many of the file's bytes have come. Nothing else looks at it.
 ghost use mathlib.Core.Path.{_≡_};
 ghost use Prim.Native.Nat.{suc, _^_, _<_};
 ghost use lib.ListN.{length};
-ghost use Rattle.sweep.specs.Files.{
-  kept-of,
-  openings,
-  descriptor-of,
-  Path-opened,
-  Descriptor-read,
-  Is-open,
-  File-opened,
-  File-read,
-};
+ghost use Rattle.sweep.specs.Files.{kept-of, openings, descriptor-of, May-close, Path-opened, Descriptor-read};
+ghost use Rattle.sweep.specs.Files.{Holds, Is-open, File-opened, File-read};
 use streams::Got;
 
 // The longest path that is opened.
@@ -48,12 +40,19 @@ fn read_descriptor(k: u64, at: u64, fd: i32, part: &mut [u8]) -> isize
     libc::read(fd, part)
 }
 
+// The system's closing of a descriptor: that of opening k, or none.
+fn close_descriptor(k: u64, fd: i32)
+    requires { ⌜ May-close k fd ⌝ }
+{
+    libc::close(fd);
+}
+
 // Closes the file that was opened last, and opens the file of a path; whether that was possible.
 pub fn open_file(disk: &mut [u64], path: &[u8]) -> bool
-    requires { ⌜ (length (now disk) ≡ 3) × (suc (openings (now disk)) < 2 ^ 64) ⌝ }
+    requires { ⌜ (length (now disk) ≡ 3) × (suc (openings (now disk)) < 2 ^ 64) × Holds (now disk) ⌝ }
     ensures { λ r. ⌜ File-opened (now (path .entry)) (now (disk .entry)) r (now (disk .exit)) ⌝ }
 {
-    libc::close(descriptor(disk));
+    close_descriptor(disk[1], descriptor(disk));
     disk[1] += 1;
     disk[2] = 0;
     disk[0] = NONE;

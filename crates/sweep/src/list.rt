@@ -7,7 +7,7 @@ ghost use Prim.Native.Nat.{suc, _+_, _^_, _≤_, _<_};
 ghost use lib.ListN.{length, take};
 ghost use Rattle.streams.specs.Receipts.{Told};
 ghost use Rattle.streams.specs.Streams.{Rises};
-ghost use Rattle.sweep.specs.Files.{openings, longest-path};
+ghost use Rattle.sweep.specs.Files.{openings, Holds, longest-path};
 ghost use Rattle.sweep.specs.Swept.{Ready, Kept-on, Passed, Listed-on};
 ghost use Rattle.sweep.specs.Program.{Listed, Finished, Sweeps};
 use crate::look::GATHERED;
@@ -375,7 +375,7 @@ pub fn sweep_list(
     came: &mut u64,
     sent: &mut u64,
 ) -> bool
-    requires { ⌜ openings (now disk) ≡ 0 ⌝ }
+    requires { ⌜ (openings (now disk) ≡ 0) × Holds (now disk) ⌝ }
     ensures { λ r. ⌜
         Sweeps (now (board .entry)) (now (disk .entry)) (now (came .entry)) (now (sent .entry)) r (now (came .exit)) (now (sent .exit)) ⌝ }
 {

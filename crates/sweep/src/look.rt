@@ -5,7 +5,7 @@ ghost use Prim.Native.Nat.{suc, _*_, _^_, _≤_, _<_};
 ghost use lib.ListN.{length, take};
 ghost use Rattle.boards.specs.Feed.{opened};
 ghost use Rattle.streams.specs.Streams.{Rises};
-ghost use Rattle.sweep.specs.Files.{openings, came-of, Is-open};
+ghost use Rattle.sweep.specs.Files.{openings, came-of, Holds, Is-open};
 ghost use Rattle.sweep.specs.Looking.{Part-taken, Piece-taken, Looked, Path-looked};
 use crate::files::open_file;
 use crate::files::read_file;
@@ -213,7 +213,8 @@ fn look_through(
     ensures { λ r. ⌜
         (r .more ≡ false)
         × Looked (now (board .entry)) file opened (now (disk .entry)) (now (sent .entry)) used (now (out .entry)) r (now (disk .exit)) (now (sent .exit))
-        (now (out .exit)) ⌝ }
+        (now (out .exit))
+        × Is-open (now (disk .exit)) ⌝ }
 {
     let mut look = Look {
         watch: Watch::open(),
@@ -254,7 +255,7 @@ pub fn look_at(
     used: usize,
     sent: &mut u64,
 ) -> Look
-    requires { ⌜ (used ≤ length (now out)) × (suc (openings (now disk)) < 2 ^ 64) ⌝ }
+    requires { ⌜ (used ≤ length (now out)) × (suc (openings (now disk)) < 2 ^ 64) × Holds (now disk) ⌝ }
     ensures { λ r. ⌜
         Path-looked (now (board .entry)) file (now (path .entry)) (now (disk .entry)) (now (sent .entry)) used (now (out .entry)) r (now (disk .exit))
         (now (sent .exit)) (now (out .exit)) ⌝ }

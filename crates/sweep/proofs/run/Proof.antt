@@ -1,6 +1,7 @@
 -- `run` meets its contract. By whether the head could be read, and whether it is refused. Assumes nothing.
 use borrow.Author.Tests.{not-true, not-false}
 use Rattle.sweep.proofs.Running.{ran-not, ran-refused, ran-swept}
+use Rattle.sweep.proofs.Filing.{holds-none}
 use borrow.Author.Needs.{needs}
 use Rattle.sweep.proofs.run.Statement.{statement}
 use Rattle.sweep.proofs.run.Tie as tie
@@ -25,7 +26,9 @@ returns-2 c =
     ran-refused (h .read-head .ensures .done (not-false _ (t .if1 .left))) (s .1) (s .2) (c .before .before .if2 .taken) (c .print-refusal .ensures)
 
 sweep-list-requires : tie.Need-sweep-list-requires
-sweep-list-requires c κs = search needs
+sweep-list-requires c κs =
+    let s = c .before .before .before .before .before .before .before .before .before .before .before .pre in
+    (s .0, holds-none (s .3))
 
 returns-3 : tie.Need-returns-3
 returns-3 c =

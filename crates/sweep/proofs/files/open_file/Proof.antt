@@ -3,16 +3,20 @@ use mir.Syntax.{w32, w64}
 use mir.Val.{toZ, ofZ, SFits}
 use mir.Facts.{fits-natAbs, sfits-toZ, fits-ofZ, toZ-ofZ}
 use Rattle.sweep.specs.Files.{too-long}
-use Rattle.sweep.proofs.Filing.{not-below, open-failed, open-done, no-opening, an-opening}
+use Rattle.sweep.proofs.Filing.{closes, not-below, open-failed, open-done, no-opening, an-opening}
 use borrow.Author.Needs.{needs}
 use Rattle.sweep.proofs.files.open_file.Statement.{statement}
 use Rattle.sweep.proofs.files.open_file.Tie as tie
 
+slice-read-close-descriptor : tie.Need-slice-read-close-descriptor
+slice-read-close-descriptor c = search needs
+
 descriptor-requires : tie.Need-descriptor-requires
 descriptor-requires c κs = search needs
 
-close-requires : tie.Need-close-requires
-close-requires c κs = search needs
+close-descriptor-requires : tie.Need-close-descriptor-requires
+close-descriptor-requires c κs =
+    closes _ (c .before .before .before .before .before .pre .2) (toZ-ofZ (record { sfits = c .descriptor .ok })) (c .descriptor .ensures)
 
 slice-read-disk : tie.Need-slice-read-disk
 slice-read-disk c = search needs
@@ -70,8 +74,9 @@ pub open-file-spec : {M : Type 1} → statement M
 open-file-spec =
     tie.close
     (tie.spec
+    slice-read-close-descriptor
     descriptor-requires
-    close-requires
+    close-descriptor-requires
     slice-read-disk
     add-disk
     slice-write-disk

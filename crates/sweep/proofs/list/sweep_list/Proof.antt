@@ -5,7 +5,9 @@ use Rattle.sweep.proofs.list.sweep_list.Statement.{statement}
 use Rattle.sweep.proofs.list.sweep_list.Tie as tie
 
 list-through-requires : tie.Need-list-through-requires
-list-through-requires c κs = first-ready _ _ (c .before .before .before .before .before .before .before .before .before .before .pre)
+list-through-requires c κs =
+    let s = c .before .before .before .before .before .before .before .before .before .before .pre in
+    first-ready _ _ (s .0) (s .1)
 
 returns : tie.Need-returns
 returns c = sweeps-stopped (c .before .before .list-through .ensures .1) (not-true _ (c .if1 .taken))

@@ -26,6 +26,7 @@ returns-2 : tie.Need-returns-2
 returns-2 c =
     let f = c .before .before .before .before .before .before .before in
     path-looked (f .before .open-file .ensures) (not-false _ (f .if1 .left)) (c .look-through .ensures .0) (c .look-through .ensures .1)
+    (c .look-through .ensures .2)
 
 pub look-at-spec : {M : Type 1} → statement M
 look-at-spec =

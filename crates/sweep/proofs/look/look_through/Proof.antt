@@ -38,7 +38,7 @@ loop-again : tie.Need-loop-again Inv-loop μ-loop
 loop-again c = (look-join (at-turn c .before .loop .inv .0) (at-turn c .loop-test .taken) (c .look-on .ensures .0), c .look-on .ensures .2)
 
 returns : tie.Need-returns Inv-loop μ-loop
-returns c = (c .loop-test .left, c .before .loop .inv .0)
+returns c = (c .loop-test .left, c .before .loop .inv .0, c .before .loop .inv .1)
 
 pub look-through-spec : {M : Type 1} → statement M
 look-through-spec =
