@@ -63,7 +63,7 @@ unfolding Logarithm-right
 logarithm-right m some = (log2-low m some, log2-high m)
 
 -- a power up to m has an exponent below that of any power over m
-exponent-less : (m a b : ℕ) → 2 ^ a ≤ m → m < 2 ^ b → a < b
+pub exponent-less : (m a b : ℕ) → 2 ^ a ≤ m → m < 2 ^ b → a < b
 exponent-less m a b low high = by-le b a (λ (l : b ≤ a). absurd (omega (arith, pow-mono l))) (λ (l : a < b). l)
 
 pub logarithm-unique : Logarithm-unique

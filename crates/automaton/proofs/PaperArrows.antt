@@ -14,7 +14,8 @@ use Rattle.words.proofs.Lists.{member-nil, member-other, member-fewer, every-me
 use Rattle.words.proofs.Ends.{Ends, ends-start, ends-whole, ends-longer, ends-label, ends-inside, ends-within, ends-without, ends-snoc}
 use Rattle.words.proofs.Largest.{Largest, largest-one, largest-same, largest-wider, state-is}
 use Rattle.automaton.specs.declared.Step.{Step}
-use Rattle.automaton.specs.Arrows.{label, targets-from, forward, back-targets, arrows, try-forward, try-back, stepped, arrow-to}
+use Rattle.automaton.specs.declared.Arrow.the-variants.{Forward}
+use Rattle.automaton.specs.Arrows.{label, targets-from, forward, back-targets, arrows, step, try-forward, try-back, stepped, arrow-to}
 use Rattle.automaton.specs.Promise.{leads-to, Steps-right, State-next, Back-arrow, Targets-right, Targets-fall}
 use Rattle.automaton.proofs.Targets.{label-suc, targets-ind, Target, targets-from-fall, forward-inside, forward-end, back-range, target-range}
 use Rattle.automaton.proofs.Labels.{labelled, Lacks, Led, seen-lacks, lacks-none, labelled-nil, labelled-on, labelled-off, labelled-largest}
@@ -52,14 +53,14 @@ back-some w p c =
     ap (λ (s : Step). s .state) (back-off (suc b) us k w p c (λ h. n (sym (label-suc w b) ∙ h))) ∙ ih q (sym (labelled-off w c 0 b us n) ∙ e) (suc k)))
     (λ b ls f ih. ih)
 
--- A STEP on the forward label
-step-forward : (w : List ℕ) (p c : ℕ) → p < length w → byte w p ≡ c → stepped w p c .state ≡ suc p
+-- A STEP on the forward label, after all backward ones
+pub step-forward : (w : List ℕ) (p c : ℕ) → p < length w → byte w p ≡ c → stepped w p c ≡ step (suc p) (suc (arrows w p)) Forward
 unfolding stepped back-targets
 step-forward w p c h e =
+    let none : 0 + length (targets-from p w p (forward w p)) ≡ length (targets-from p w p (forward w p)) = omega arith in
     let lacks : Lacks w c (targets-from p w p (forward w p)) = rw (forward-inside w p h, e) (seen-lacks w p p c []) in
-    ap (λ (s : Step). s .state)
-    (back-none w p c p (forward w p) (lacks-none w c 0 (targets-from p w p (forward w p)) lacks) 0
-    ∙ forward-on (0 + length (targets-from p w p (forward w p))) w p c h e)
+    back-none w p c p (forward w p) (lacks-none w c 0 (targets-from p w p (forward w p)) lacks) 0
+    ∙ rw none (forward-on (length (targets-from p w p (forward w p))) w p c h e)
 
 -- and on any other byte: to the target with that label, else to 0
 step-other : (w : List ℕ) (p c : ℕ) → (p < length w → byte w p ≢ c) → stepped w p c .state ≡ labelled w c 0 (back-targets w p)

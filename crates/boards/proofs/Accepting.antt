@@ -2,7 +2,7 @@
 -- Joining's refusals are told by the same tests. Assumes nothing.
 use mathlib.Core.Path.{_≡_, refl, sym, ap, _∙_}
 use mathlib.Core.Bool.{Bool, true, false, _&&_, not}
-use mathlib.Core.List.{List, [], _∷_, _++_, map}
+use mathlib.Core.List.{List, [], _∷_, map}
 use mathlib.Core.Logic.{_≢_, _↔_}
 use Prim.Native.Nat.{ℕ, zero, suc, _+_, _*_, _≤_, _<_, min}
 use native.Mathlib.Omega.{arith}
@@ -11,7 +11,7 @@ use lib.ListN.{length, length-map}
 use borrow.Author.Tests.{eq-eqb, ne-eqb, lt-ltb, le-ltb, eqb-true, eqb-false, ltb-true, ltb-false, not-true, not-false}
 use Rattle.words.specs.Words.{member, Every}
 use Rattle.words.proofs.Tests.{by-test, by-le, never-both, fails, and-left, and-right, and-both}
-use Rattle.words.proofs.Lists.{every-map}
+use Rattle.words.proofs.Lists.{every-map, every-append}
 use Rattle.automaton.specs.Costs.{sum}
 use Rattle.runs.specs.Reading.{longest-text}
 use Rattle.codes.specs.Refusals.{refused-if, first-refusal}
@@ -159,24 +159,16 @@ module _ (P : ℕ → Type 0) where
   all-lengths [] f = tt
   all-lengths (w ∷ ws) f = (f 0 (omega arith), all-lengths ws (λ j h. f (suc j) (omega arith)))
 
-  every-append : (xs ys : List ℕ) → Every P (xs ++ ys) ↔ (Every P xs × Every P ys)
-  every-append [] ys = (λ h. (tt, h), λ h. h .1)
-  every-append (x ∷ xs) ys =
-      let u = every-append xs ys in (
-        λ h. let both = u .0 (h .1) in ((h .0, both .0), both .1),
-        λ h. (h .0 .0, u .1 (h .0 .1, h .1)),
-      )
-
   each-code : (ws : List (List ℕ)) → Every P (bytes-of ws) → (j : ℕ) → j < length ws → Every P (code ws j)
   unfolding code bytes-of
   each-code [] all j h = absurd (omega arith)
-  each-code (w ∷ ws) all zero h = every-append w (bytes-of ws) .0 all .0
-  each-code (w ∷ ws) all (suc j) h = each-code ws (every-append w (bytes-of ws) .0 all .1) j (omega arith)
+  each-code (w ∷ ws) all zero h = every-append P w (bytes-of ws) .0 all .0
+  each-code (w ∷ ws) all (suc j) h = each-code ws (every-append P w (bytes-of ws) .0 all .1) j (omega arith)
 
   pub all-codes : (ws : List (List ℕ)) → ((j : ℕ) → j < length ws → Every P (code ws j)) → Every P (bytes-of ws)
   unfolding code bytes-of
   all-codes [] f = tt
-  all-codes (w ∷ ws) f = every-append w (bytes-of ws) .1 (f 0 (omega arith), all-codes ws (λ j h. f (suc j) (omega arith)))
+  all-codes (w ∷ ws) f = every-append P w (bytes-of ws) .1 (f 0 (omega arith), all-codes ws (λ j h. f (suc j) (omega arith)))
 
 -- accepted codes are those that preparing does not refuse where there is room
 pub roomy : (ls bs : List ℕ) → prepare-refusal ls bs 32768 ≡ codes-refusal ls bs

@@ -6,11 +6,12 @@ use mathlib.Core.Logic.{_≢_}
 use Prim.Native.Nat.{ℕ, zero, suc, _≤_, _<_}
 use native.Mathlib.Omega.{arith}
 use lib.Dec.{eqb}
-use lib.ListN.{length}
+use lib.ListN.{length, take}
+use lib.Seq.{length-take-le}
 use borrow.Author.Tests.{eqb-true, eq-eqb}
 use Rattle.words.specs.Words.{ends-with, largest, state-of}
 use Rattle.words.proofs.Tests.{by-le, by-eq, never-both, same-test}
-use Rattle.words.proofs.Ends.{Ends, ends-is, ends-test, ends-zero}
+use Rattle.words.proofs.Ends.{Ends, ends-is, ends-test, ends-zero, ends-whole}
 
 -- x is the largest number up to l with P
 pub record Largest (P : ℕ → Type 0) (l x : ℕ) : Type 0 where
@@ -81,6 +82,12 @@ state-read w ts = state-is w ts .holds .fits
 
 pub state-nil : (w : List ℕ) → state-of w [] ≡ 0
 state-nil w = omega (arith, state-read w [])
+
+-- that of the first p bytes is p
+pub state-start : (w : List ℕ) (p : ℕ) → p ≤ length w → state-of w (take p w) ≡ p
+state-start w p h =
+    largest-one (Ends (take p w) w) (length w) (state-of w (take p w)) p (state-is w (take p w))
+    (record { bound = h; holds = ends-whole w p h; none = λ y a b u. absurd (omega (arith, u .fits, length-take-le p w h)) })
 
 -- it is the whole word exactly where the text ends with the whole word
 pub state-whole : (w ts : List ℕ) → eqb (state-of w ts) (length w) ≡ ends-with ts w (length w)

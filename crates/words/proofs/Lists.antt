@@ -1,13 +1,13 @@
 -- Lists: equality as a test, membership as a test, facts of every element, one element more at the end, and the last n elements. Assumes nothing.
 use mathlib.Core.Path.{_≡_, refl, sym, ap, _∙_}
 use mathlib.Core.Bool.{true, false, _||_, and-true}
-use mathlib.Core.Logic.{_≢_}
+use mathlib.Core.Logic.{_≢_, _↔_}
 use mathlib.Core.List.{List, [], _∷_, _++_}
 use Prim.Native.Nat.{ℕ, zero, suc, _+_, _-_, _≤_, _<_}
 use native.Mathlib.Omega.{arith}
 use lib.Dec.{eqb}
 use lib.ListN.{length, getD, take, drop, length-append, length-drop, drop-of-length-le}
-use lib.Seq.{take-at, getD-at, take-add, drop-at, drop-drop, drop-append-le, length-take-le}
+use lib.Seq.{take-at, getD-at, take-add, drop-at, drop-drop, drop-append-le, drop-append-add, length-take-le}
 use borrow.Author.Tests.{eqb-true, eqb-false, eq-eqb, ne-eqb}
 use Rattle.words.specs.Words.{member, Every, same, suffix, in-front}
 use Rattle.words.proofs.Tests.{by-test, never-both, fails, and-left, and-right, and-both, same-test}
@@ -92,6 +92,14 @@ every-at P [] i all h = absurd (omega arith)
 every-at P (x ∷ xs) zero all h = all .0
 every-at P (x ∷ xs) (suc i) all h = every-at P xs i (all .1) (omega arith)
 
+pub every-append : (P : ℕ → Type 0) (xs ys : List ℕ) → Every P (xs ++ ys) ↔ (Every P xs × Every P ys)
+every-append P [] ys = (λ h. (tt, h), λ h. h .1)
+every-append P (x ∷ xs) ys =
+    let u = every-append P xs ys in (
+      λ h. let both = u .0 (h .1) in ((h .0, both .0), both .1),
+      λ h. (h .0 .0, u .1 (h .0 .1, h .1)),
+    )
+
 pub every-self : (xs : List ℕ) → Every (λ x. member x xs ≡ true) xs
 every-self [] = tt
 every-self (x ∷ xs) = (member-head x xs, every-map xs (λ y m. member-more y x xs m) (every-self xs))
@@ -148,6 +156,13 @@ unfolding suffix
 suffix-snoc n ts c h =
     let at : length (ts ++ (c ∷ [])) - suc n ≡ length ts - n = omega (arith, length-snoc ts c) in
     ap (λ (k : ℕ). drop k (ts ++ (c ∷ []))) at ∙ drop-append-le (length ts - n) ts (c ∷ []) (omega arith)
+
+-- those of two lists are those of the second, if it has so many
+pub suffix-append : (n : ℕ) (xs ys : List ℕ) → n ≤ length ys → suffix n (xs ++ ys) ≡ suffix n ys
+unfolding suffix
+suffix-append n xs ys h =
+    let at : length (xs ++ ys) - n ≡ length xs + (length ys - n) = omega (arith, length-append xs ys) in
+    ap (λ (k : ℕ). drop k (xs ++ ys)) at ∙ drop-append-add xs ys (length ys - n)
 
 -- the last n of the first i + n are the first n from i on
 pub suffix-take : (i n : ℕ) (ts : List ℕ) → i + n ≤ length ts → suffix n (take (i + n) ts) ≡ take n (drop i ts)
