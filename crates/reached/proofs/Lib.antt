@@ -1,0 +1,7 @@
+pub mod CostSamples
+pub mod ManyArrows
+pub mod TotalReached
+pub mod ByteReached
+pub mod Reached
+pub mod Fillings
+pub mod Counting

@@ -1,0 +1,4 @@
+pub mod Words
+pub mod Promise
+pub mod Samples
+pub mod Figures
