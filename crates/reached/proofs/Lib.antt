@@ -1,7 +1,7 @@
-pub mod CostSamples
+pub mod AtCeilingSamples
 pub mod ManyArrows
 pub mod TotalReached
 pub mod ByteReached
 pub mod Reached
-pub mod Fillings
+pub mod Copies
 pub mod Counting

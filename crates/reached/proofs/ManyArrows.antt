@@ -52,7 +52,7 @@ some-cost w p c h = rw (costs-right w p c) (go (back-targets w p) h)
     go [] l = absurd (omega arith)
     go (t ∷ ts) l = by-test (eqb (label w t) c) (λ e. rw e (omega arith)) (λ e. rw e (omega arith))
 
--- the forward byte costs all arrows of the state
+-- the forward byte costs a comparison for each arrow back, and one more
 pub forward-pays : (w ts : List ℕ) (p c : ℕ) → state-of w ts ≡ p → p < length w → byte w p ≡ c → cost-after w ts c ≡ suc (arrows w p)
 unfolding cost-after
 forward-pays w ts p c state h e =

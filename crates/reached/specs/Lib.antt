@@ -1,4 +1,4 @@
 pub mod Words
 pub mod Promise
-pub mod Samples
 pub mod Figures
+pub mod Samples

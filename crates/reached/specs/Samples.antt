@@ -1,10 +1,14 @@
 -- The words that cost most, small ones, and what they cost, worked out by hand as one table. Assumes nothing: these are definitions.
 use mathlib.Core.List.{List, [], _∷_, _++_}
 use Prim.Native.Nat.{ℕ, _+_}
+use Prim.Native.String.{String}
 use Rattle.automaton.specs.Ceilings.{log2, byte-ceiling, total-ceiling}
 use Rattle.automaton.specs.Costs.{costs, sum}
 use Rattle.automaton.specs.Samples.{Sample, Agree, A, B}
+use Rattle.forms.specs.Ascii.{ascii}
+use Rattle.reached.specs.declared.Figures.{Figures}
 use Rattle.reached.specs.Words.{costly-code, costly-text, steep-code, steep-text, steep-byte}
+use Rattle.reached.specs.Figures.{figures-form}
 
 -- of m and n: the code, the text, the costs of its bytes; their sum and the total ceiling, which are the same
 unfoldable pub together : (m n : ℕ) → (code text each : List ℕ) → (total : ℕ) → Sample
@@ -25,6 +29,10 @@ alone m w ts ks c =
       expected = w ∷ ts ∷ ks ∷ (c ∷ c ∷ []) ∷ [];
     }
 
+-- the form of some figures
+unfoldable pub showing : Figures → (form : String) → Sample
+showing f s = record { found = figures-form (ascii "(total (m ") f ∷ []; expected = ascii s ∷ [] }
+
 -- THE TABLE
 unfoldable pub reached-samples : List Sample
 reached-samples =
@@ -34,6 +42,7 @@ reached-samples =
     ∷ alone 1 (32 ∷ []) (32 ∷ []) (1 ∷ []) 1
     ∷ alone 2 (32 ∷ 33 ∷ []) (32 ∷ 33 ∷ []) (1 ∷ 2 ∷ []) 2
     ∷ alone 6 (32 ∷ 33 ∷ 32 ∷ 34 ∷ 32 ∷ 33 ∷ []) (32 ∷ 33 ∷ 32 ∷ 34 ∷ []) (1 ∷ 2 ∷ 1 ∷ 3 ∷ []) 3
+    ∷ showing (record { m = 1; n = 20; cost = 30; ceiling = 4 }) "(total (m 1) (n 20) (cost 30) (ceiling 4))\n"
     ∷ []
 
 -- all its rows agree

@@ -1,4 +1,4 @@
--- THE WORDS THAT COST MOST, as Hancart gives them (behind theorems 4.4 and 4.6), for every length. Assumes nothing: these are definitions.
+-- THE WORDS THAT COST MOST, as Hancart gives them (in the proofs of his theorems 4.6 and 4.4), for every length. Assumes nothing: these are definitions.
 use mathlib.Core.Bool.{cond}
 use mathlib.Core.List.{List, [], _∷_, _++_}
 use Prim.Native.Nat.{ℕ, zero, suc, _+_, _%_}
@@ -22,7 +22,7 @@ costly-code m = spaced m m
 abbrev pub costly-text : (m n : ℕ) → List ℕ
 costly-text m n = spaced m n
 
--- ONE BYTE. Each ruler is the one before it, a new byte and the one before it again: 32, 33, 32, 34, 32, 33, 32, ..
+-- ONE BYTE. Each ruler (the paper's word ξ) is the one before it, a new byte and the one before it again: 32, 33, 32, 34, 32, 33, 32, ..
 unfoldable pub ruler : (k : ℕ) → List ℕ
 ruler zero = []
 ruler (suc k) = ruler k ++ ((32 + k) ∷ ruler k)

@@ -1,6 +1,7 @@
 // reached (request 114): what the codes and texts that cost most do cost, for some lengths, beside the ceilings. A line has the code's length m, the number n
 // of bytes read, the comparisons that the watch counted (of all n bytes, or of the one behind them) and the ceiling that the library answers. The contracts of
-// `put_total` and `put_byte` say that the last two are the ceiling whatever the lengths; for which lengths lines are printed is seen by running it.
+// `put_total` and `put_byte` say that the last two are the ceiling, for all lengths that they take. Since they are equal, no contract can say which of them was
+// counted: that is read in `costly` and `steep`.
 ghost use mathlib.Core.Path.{_≡_};
 ghost use Prim.Native.Nat.{_+_, _^_, _≤_, _<_};
 ghost use lib.ListN.{length, take};
@@ -8,13 +9,18 @@ ghost use Rattle.words.specs.Words.{byte};
 ghost use Rattle.automaton.specs.Ceilings.{log2};
 ghost use Rattle.automaton.specs.Costs.{cost-after};
 ghost use Rattle.finder.specs.Texts.{watch-of};
-ghost use Rattle.forms.specs.Text.{Written};
+ghost use Rattle.forms.specs.Text.{Written-within};
 ghost use Rattle.reached.specs.Words.{spaced-byte, spaced, steep-code};
-ghost use Rattle.reached.specs.Figures.{Countable, Room, total-figures, byte-figures, line, total-line, byte-line};
+ghost use Rattle.reached.specs.Figures.{Countable, Lengths, total-figures, byte-figures, figures-form, total-form, byte-form};
 use finder::Watch;
 
-// The longest text here, a prime.
+// The longest text here: a prime, so that no code but one of a single byte ends where it ends.
 const TEXT: usize = 10007;
+
+// Room for the longest code, and for its sheet.
+const CODE: usize = codes::LONGEST as usize;
+
+const SHEET: usize = 5 * CODE + 5;
 
 // What a line shows.
 struct Figures {
@@ -64,9 +70,9 @@ fn count(code: &[u8], text: &[u8], sheet: &mut [u8], places: &mut [u32]) -> Watc
     f.watch
 }
 
-// Writes the costly code of m bytes and its text of n bytes: what feeding it costs, and the total ceiling.
+// Writes the costly code of m bytes and its text of n bytes. Answers what feeding the text costs, and the total ceiling.
 fn costly(code: &mut [u8], text: &mut [u8], sheet: &mut [u8], places: &mut [u32]) -> Figures
-    requires { ⌜ Room (length (now code)) (length (now text)) (length (now sheet)) (length (now places)) ⌝ }
+    requires { ⌜ Lengths (length (now code)) (length (now text)) (length (now sheet)) (length (now places)) ⌝ }
     ensures { λ r. ⌜ r ≡ total-figures (length (now (code .entry))) (length (now (text .entry))) ⌝ }
 {
     let m = code.len();
@@ -92,9 +98,9 @@ fn cost_behind(code: &[u8], n: usize, sheet: &mut [u8], places: &mut [u32]) -> u
     after.compares - before.compares
 }
 
-// Writes the steep code of m bytes: what the byte behind its first n costs, and the byte ceiling.
+// Writes the steep code of m bytes. Answers what the byte behind its first n costs, and the byte ceiling.
 fn steep(code: &mut [u8], n: u32, sheet: &mut [u8], places: &mut [u32]) -> Figures
-    requires { ⌜ Room (length (now code)) (length (now code)) (length (now sheet)) (length (now places)) × (n + 1 ≡ 2 ^ log2 (length (now code))) ⌝ }
+    requires { ⌜ Lengths (length (now code)) (length (now code)) (length (now sheet)) (length (now places)) × (n + 1 ≡ 2 ^ log2 (length (now code))) ⌝ }
     ensures { λ r. ⌜ r ≡ byte-figures (length (now (code .entry))) n ⌝ }
 {
     fill_ruler(code);
@@ -108,9 +114,10 @@ fn steep(code: &mut [u8], n: u32, sheet: &mut [u8], places: &mut [u32]) -> Figur
     }
 }
 
-// Writes a line to the start of a buffer, as far as it has room: what is before the figures, and the figures. Where it ends.
+// Writes a line, of 97 bytes at most, to the start of a buffer: what is before the figures, and the figures. Answers where it ends.
 fn put_line(out: &mut [u8], start: &[u8], f: Figures) -> usize
-    ensures { λ r. ⌜ Written (line (now (start .entry)) f) 0 (now (out .entry)) r (now (out .exit)) ⌝ }
+    requires { ⌜ (length (now start) ≤ 10) × (97 ≤ length (now out)) ⌝ }
+    ensures { λ r. ⌜ Written-within 97 (figures-form (now (start .entry)) f) 0 (now (out .entry)) r (now (out .exit)) ⌝ }
 {
     let a = forms::put_number(out, 0, start, f.m as u64);
     let b = forms::put_number(out, a, b") (n ", f.n as u64);
@@ -121,12 +128,12 @@ fn put_line(out: &mut [u8], start: &[u8], f: Figures) -> usize
 
 // Writes the line of a costly code and its text.
 fn put_total(out: &mut [u8], m: usize, n: usize) -> usize
-    requires { ⌜ (1 ≤ m) × (m ≤ 4000) × (n ≤ 10007) ⌝ }
-    ensures { λ r. ⌜ Written (total-line m n) 0 (now (out .entry)) r (now (out .exit)) ⌝ }
+    requires { ⌜ (1 ≤ m) × (m ≤ 4000) × (n ≤ 10007) × (97 ≤ length (now out)) ⌝ }
+    ensures { λ r. ⌜ Written-within 97 (total-form m n) 0 (now (out .entry)) r (now (out .exit)) ⌝ }
 {
-    let mut code = [0u8; 4000];
+    let mut code = [0u8; CODE];
     let mut text = [0u8; TEXT];
-    let mut sheet = [0u8; 20005];
+    let mut sheet = [0u8; SHEET];
     let mut places = [0u32; TEXT + 1];
     let f = costly(&mut code[..m], &mut text[..n], &mut sheet, &mut places);
     put_line(out, b"(total (m ", f)
@@ -134,28 +141,28 @@ fn put_total(out: &mut [u8], m: usize, n: usize) -> usize
 
 // Writes the line of a steep code and the byte behind its first n.
 fn put_byte(out: &mut [u8], m: usize, n: u32) -> usize
-    requires { ⌜ (1 ≤ m) × (m ≤ 4000) × (n + 1 ≡ 2 ^ log2 m) ⌝ }
-    ensures { λ r. ⌜ Written (byte-line m n) 0 (now (out .entry)) r (now (out .exit)) ⌝ }
+    requires { ⌜ (1 ≤ m) × (m ≤ 4000) × (n + 1 ≡ 2 ^ log2 m) × (97 ≤ length (now out)) ⌝ }
+    ensures { λ r. ⌜ Written-within 97 (byte-form m n) 0 (now (out .entry)) r (now (out .exit)) ⌝ }
 {
-    let mut code = [0u8; 4000];
-    let mut sheet = [0u8; 20005];
-    let mut places = [0u32; 4001];
+    let mut code = [0u8; CODE];
+    let mut sheet = [0u8; SHEET];
+    let mut places = [0u32; CODE + 1];
     let f = steep(&mut code[..m], n, &mut sheet, &mut places);
     put_line(out, b"(byte (m ", f)
 }
 
 // Prints the first bytes of a buffer.
-fn show(out: &[u8], n: usize) {
-    if n <= out.len() {
-        io::write_all(1, &out[..n]);
-    }
+fn show(out: &[u8], n: usize)
+    requires { ⌜ n ≤ length (now out) ⌝ }
+{
+    io::write_all(1, &out[..n]);
 }
 
 // Prints the line of a costly code and its text.
 fn show_total(m: usize, n: usize)
     requires { ⌜ (1 ≤ m) × (m ≤ 4000) × (n ≤ 10007) ⌝ }
 {
-    let mut out = [0u8; 128];
+    let mut out = [0u8; 97];
     let end = put_total(&mut out, m, n);
     show(&out, end);
 }
@@ -164,7 +171,7 @@ fn show_total(m: usize, n: usize)
 fn show_byte(m: usize, n: u32)
     requires { ⌜ (1 ≤ m) × (m ≤ 4000) × (n + 1 ≡ 2 ^ log2 m) ⌝ }
 {
-    let mut out = [0u8; 128];
+    let mut out = [0u8; 97];
     let end = put_byte(&mut out, m, n);
     show(&out, end);
 }

@@ -8,18 +8,18 @@ use lib.ListN.{length}
 use borrow.Author.Needs.{needs}
 use Rattle.reached.specs.Words.{steep-code}
 use Rattle.reached.proofs.ByteReached.{steep-length}
-use Rattle.reached.proofs.Fillings.{Filling, filling-start, filling-turn, filling-end, steep-at}
+use Rattle.reached.proofs.Copies.{Copied, copied-start, copied-turn, copied-end, steep-at}
 use Rattle.reached.proofs.fill_ruler.Statement.{statement}
 use Rattle.reached.proofs.fill_ruler.Tie as tie
 
 abbrev Inv-loop : tie.InvT-loop
-Inv-loop word₀ i₀ i-end word i = Filling (steep-code (length word₀)) word₀ word i
+Inv-loop word₀ i₀ i-end word i = Copied (steep-code (length word₀)) word₀ word i
 
 abbrev μ-loop : tie.MeasureT-loop
 μ-loop word₀ i₀ i-end word i = i-end - i
 
 loop-holds : tie.Need-loop-holds Inv-loop μ-loop
-loop-holds c = filling-start _ _
+loop-holds c = copied-start _ _
 
 add-word : tie.Need-add-word Inv-loop μ-loop
 add-word c = search needs
@@ -44,7 +44,7 @@ loop-again c =
     let l = c .before in
     let n = length (l .before .args .word .now) in
     let long = steep-length n in
-    filling-turn (l .loop .inv) _ (omega (arith, l .loop .inv .size)) (omega arith)
+    copied-turn (l .loop .inv) _ (omega (arith, l .loop .inv .size)) (omega arith)
     (rw (add-one (l .loop .i)) (sym (steep-at 64 n (l .loop .i) (l .before .good .0 .0) (omega arith))))
 
 same-length : tie.Need-same-length Inv-loop μ-loop
@@ -53,7 +53,7 @@ same-length c = c .before .loop .inv .size
 returns : tie.Need-returns Inv-loop μ-loop
 returns c =
     let l = c .before in
-    filling-end (l .loop .inv) (omega (arith, l .loop .inv .size)) (steep-length (length (l .before .args .word .now)) ∙ sym (l .loop .inv .size))
+    copied-end (l .loop .inv) (omega (arith, l .loop .inv .size)) (steep-length (length (l .before .args .word .now)) ∙ sym (l .loop .inv .size))
 
 pub fill-ruler-spec : {M : Type 1} → statement M
 fill-ruler-spec =

@@ -4,7 +4,7 @@ use Prim.Native.Nat.{_≤_}
 use native.Mathlib.Omega.{arith}
 use lib.Dec.{lit≤}
 use lib.Seq.{length-take-le}
-use Rattle.reached.proofs.Counting.{room, byte-lengths}
+use Rattle.reached.proofs.Counting.{lengths, byte-lengths}
 use borrow.Author.Needs.{needs}
 use Rattle.reached.proofs.put_byte.Statement.{statement}
 use Rattle.reached.proofs.put_byte.Tie as tie
@@ -25,7 +25,7 @@ steep-requires : tie.Need-steep-requires
 steep-requires c κs =
     let s = c .before .before .before .before in
     let short : s .args .m ≤ 4000 = s .pre .1 in
-    (room _ _ _ _ _ _ short short (s .pre .0) short (omega arith) (lit≤ tt) (omega arith), rw (length-take-le _ _ short) (s .pre .2))
+    (lengths _ _ _ _ _ _ short short (s .pre .0) short (omega arith) (lit≤ tt) (omega arith), rw (length-take-le _ _ short) (s .pre .2))
 
 slice-aggregate-put-line : tie.Need-slice-aggregate-put-line
 slice-aggregate-put-line c = search needs

@@ -1,6 +1,7 @@
 -- `put_line` meets its contract. Assumes nothing.
 use Rattle.forms.proofs.Writing.{written-on}
-use Rattle.reached.specs.Figures.{line}
+use Rattle.reached.specs.Figures.{figures-form}
+use Rattle.reached.proofs.Counting.{figures-short}
 use borrow.Author.Needs.{needs}
 use Rattle.reached.proofs.put_line.Statement.{statement}
 use Rattle.reached.proofs.put_line.Tie as tie
@@ -42,17 +43,21 @@ same-length : tie.Need-same-length
 same-length c = search needs
 
 returns : tie.Need-returns
-unfolding line
+unfolding figures-form
 returns c =
     let last = c .before .before in
     let fourth = last .before .before .before .before .before in
     let third = fourth .before .before .before .before .before in
     let second = third .before .before .before .before .before in
     let first = second .before .before .before .before .before .before in
-    written-on
-    (written-on
-    (written-on (written-on (first .put-number .ensures) (second .put-number2 .ensures)) (third .put-number3 .ensures)) (fourth .put-number4 .ensures))
-    (last .put .ensures)
+    let k = first .before .struct-known .given in
+    let s = first .before .before .before .before .before in (
+      written-on
+          (written-on
+          (written-on (written-on (first .put-number .ensures) (second .put-number2 .ensures)) (third .put-number3 .ensures)) (fourth .put-number4 .ensures))
+          (last .put .ensures),
+      figures-short (s .args .start .now) (s .args .f) (s .pre .0) (k .0 .fits) (k .1 .0 .fits) (k .1 .1 .0 .fits) (k .1 .1 .1 .0 .fits),
+    )
 
 pub put-line-spec : {M : Type 1} → statement M
 put-line-spec =

@@ -4,7 +4,7 @@ use Prim.Native.Nat.{_≤_}
 use native.Mathlib.Omega.{arith}
 use lib.Dec.{lit≤}
 use lib.Seq.{length-take-le}
-use Rattle.reached.proofs.Counting.{room, total-lengths}
+use Rattle.reached.proofs.Counting.{lengths, total-lengths}
 use borrow.Author.Needs.{needs}
 use Rattle.reached.proofs.put_total.Statement.{statement}
 use Rattle.reached.proofs.put_total.Tie as tie
@@ -31,7 +31,7 @@ costly-requires : tie.Need-costly-requires
 costly-requires c κs =
     let s = c .before .before .before .before .before in
     let few : s .args .n ≤ 10007 = s .pre .2 in
-    room _ _ _ _ _ _ (s .pre .1) few (s .pre .0) (s .pre .1) (omega arith) (lit≤ tt) (omega arith)
+    lengths _ _ _ _ _ _ (s .pre .1) few (s .pre .0) (s .pre .1) (omega arith) (lit≤ tt) (omega arith)
 
 slice-aggregate-put-line : tie.Need-slice-aggregate-put-line
 slice-aggregate-put-line c = search needs

@@ -18,17 +18,17 @@ use Rattle.reached.specs.Words.{ruler, steep-code}
 use Rattle.reached.proofs.ByteReached.{ruler-length, ruler-next, steep-fits}
 
 -- THE LOOP: the first i bytes are those of the word to be written
-pub record Filling (target before word : List ℕ) (i : ℕ) : Type 0 where
+pub record Copied (target before word : List ℕ) (i : ℕ) : Type 0 where
   pub size : length word ≡ length before
   pub front : take i word ≡ take i target
 
-pub filling-start : (target before : List ℕ) → Filling target before before 0
-filling-start target before = record { size = refl; front = refl }
+pub copied-start : (target before : List ℕ) → Copied target before before 0
+copied-start target before = record { size = refl; front = refl }
 
-module _ {target before word : List ℕ} {i : ℕ} (f : Filling target before word i) where
-  pub filling-turn : (v : ℕ) → i < length word → i < length target → v ≡ byte target i → Filling target before (set word i v) (i + 1)
+module _ {target before word : List ℕ} {i : ℕ} (f : Copied target before word i) where
+  pub copied-turn : (v : ℕ) → i < length word → i < length target → v ≡ byte target i → Copied target before (set word i v) (i + 1)
   unfolding byte
-  filling-turn v h l e =
+  copied-turn v h l e =
       record {
         size = length-set word i v ∙ f .size;
         front =
@@ -37,8 +37,8 @@ module _ {target before word : List ℕ} {i : ℕ} (f : Filling target before wo
             ∙ sym (take-suc target i 0 l));
       }
 
-  pub filling-end : length word ≤ i → length target ≡ length word → word ≡ target
-  filling-end h e = sym (take-all i word h) ∙ f .front ∙ take-all i target (omega arith)
+  pub copied-end : length word ≤ i → length target ≡ length word → word ≡ target
+  copied-end h e = sym (take-all i word h) ∙ f .front ∙ take-all i target (omega arith)
 
 -- HALVING: 2 ^ k can be halved k times, and more below a power of two as often as the number that is added to it
 trailing-power : (d k : ℕ) → k < d → trailingZeros d (2 ^ k) ≡ k
