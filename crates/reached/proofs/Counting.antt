@@ -28,7 +28,7 @@ use Rattle.forms.specs.Text.{decimal, with-number}
 use Rattle.forms.proofs.Decimals.{with-number-short}
 use Rattle.reached.specs.declared.Figures.{Figures}
 use Rattle.reached.specs.Words.{costly-code, costly-text, steep-code, steep-text, steep-byte}
-use Rattle.reached.specs.Figures.{Room, Countable, Lengths, total-figures, byte-figures, figures-form}
+use Rattle.reached.specs.Figures.{Countable, Lengths, total-figures, byte-figures, figures-form}
 use Rattle.reached.proofs.TotalReached.{spaced-length, total-exact}
 use Rattle.reached.proofs.ByteReached.{ruler-length, steep-length, steep-shorter, steep-begins, steep-label, byte-exact}
 use Rattle.reached.proofs.Reached.{prepares, call-watch, costly-is, steep-is, total-answered, byte-answered}
