@@ -1,5 +1,7 @@
 // Simon's automaton as Hancart describes it ("Des bornes exactes de la complexité des algorithmes séquentiels de recherche d'un motif"): what one byte does.
 // Its arrows, ceilings and theorems are in specs/ and proofs/, for words of any length.
+#![tactic(auto)]
+
 
 // An arrow (a transition of the automaton) that is followed: a backward one with its target, the forward one, or none.
 #[derive(Drop)]

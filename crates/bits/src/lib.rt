@@ -1,4 +1,6 @@
 // Words of 64 bits as sets of numbers below 64: the highest, one more, and all but the highest.
+#![tactic(auto)]
+
 ghost use Rattle.bits.specs.Bits.{Top, WithBit, WithoutTop};
 
 // The highest bit of m, 0 where there is none.

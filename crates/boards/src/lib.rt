@@ -1,5 +1,7 @@
 // Boards (many codes in one pass, by the automaton of Aho and Corasick): preparing the board of 1 to 64 codes, and its watch. piece.rt has feeding,
 // joining.rt two boards joined, and named.rt what both read of a board.
+#![tactic(auto)]
+
 ghost use Rattle.std.specs.Prelude.{◌≡◌, ◌≤◌, ◌<◌, min, length};
 ghost use Rattle.words.specs.Words.{member};
 ghost use Rattle.automaton.specs.Costs.{sum};

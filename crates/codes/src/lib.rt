@@ -1,4 +1,6 @@
 // Codes (the patterns): which are accepted, and their ceilings (the most comparisons that a text can cost).
+#![tactic(auto)]
+
 ghost use Rattle.std.specs.Prelude.{◌≡◌, ◌≤◌};
 ghost use Rattle.automaton.specs.Ceilings.{log2, different};
 ghost use Rattle.codes.specs.Refusals.{answer_refusal, answer_value};

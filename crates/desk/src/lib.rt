@@ -1,4 +1,6 @@
 // What the order desk's C program calls: preparing (crate sheets) and both ceilings (crate codes), each answer as one signed number. c/finder.h is the C side.
+#![tactic(auto)]
+
 ghost use Rattle.std.specs.Prelude.{◌≡◌, ◌^◌, ◌<◌, length};
 ghost use Rattle.codes.specs.Refusals.{answer_value};
 ghost use Rattle.codes.specs.Entry.{byte_answer, total_answer};

@@ -1,4 +1,6 @@
 // C entries over preparing and feeding, for the tests and the benchmark: numbers in place of the watch, the answer and the ending.
+#![tactic(auto)]
+
 ghost use Rattle.std.specs.Prelude.{◌≡◌};
 ghost use Rattle.finder.specs.Entry.{lent};
 ghost use Rattle.entries.specs.Numbers.{prepared_numbers, PrepareTold, watch_from, fed_numbers, FeedTold};

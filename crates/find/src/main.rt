@@ -1,6 +1,8 @@
 // find: reads `(code X)`, a line feed and a text from standard input, and prints each place of X in the text, then what was counted.
 // `run` is the program, and its contract says what it does with the bytes that came. Only what the system did is left to reading, in crates/streams. `came`
 // and `sent` count the bytes read and written, and nothing here looks at them.
+#![tactic(auto)]
+
 ghost use Rattle.std.specs.Prelude.{◌≡◌, false, ◌≤◌, length, take};
 ghost use Rattle.finder.specs.Feed.{opened};
 ghost use Rattle.find.specs.Printed.{prepared_refusal, prepared_sheet, line_refusal, line_sheet, print_room, PieceWritten};

@@ -1,5 +1,7 @@
 // Watches (the scan's states), and what the bytes of a text do: where they lead by the arrows of a sheet, and what they cost. piece.rt has the entry point.
 // The order of comparisons is one that Hancart's theorem 4.6 covers: the backward labels first, by falling target, then the forward label.
+#![tactic(auto)]
+
 ghost use Rattle.std.specs.Prelude.{◌≡◌, true, ◌+◌, ◌^◌, ◌≤◌, ◌<◌, min, length};
 ghost use Rattle.automaton.specs.Arrows.{label, arrows_below, back_arrows, try_forward, stepped};
 ghost use Rattle.codes.specs.Codes.{longest_code};

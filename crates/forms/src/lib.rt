@@ -1,4 +1,6 @@
 // The program's forms: the line that its input begins with, and the lines that it prints.
+#![tactic(auto)]
+
 ghost use Rattle.std.specs.Prelude.{◌≡◌, true, [], ◌∷◌, ◌++◌, ◌*◌, length};
 ghost use Rattle.forms.specs.Ascii.{ascii};
 ghost use Rattle.forms.specs.Text.{decimal, place_form, place_forms, end_form, refused_form, Written, WrittenWithin};

@@ -2,6 +2,8 @@
 // of bytes read, the comparisons that the watch counted (of all n bytes, or of the one behind them) and the ceiling that the library answers. The contracts of
 // `put_total` and `put_byte` say that the last two are the ceiling, for all lengths that they take. Since they are equal, no contract can say which of them was
 // counted: that is read in `costly` and `steep`.
+#![tactic(auto)]
+
 ghost use Rattle.std.specs.Prelude.{◌≡◌, ◌+◌, ◌^◌, ◌≤◌, ◌<◌, length, take};
 ghost use Rattle.words.specs.Words.{byte};
 ghost use Rattle.automaton.specs.Ceilings.{log2};

@@ -1,5 +1,7 @@
 // Reading a text in pieces, whatever reads it: a piece is taken until it ends or the list is full, and each call gets the state that the one before it
 // answered. This crate has definitions and theorems, and the ending that every reader answers.
+#![tactic(auto)]
+
 ghost use Rattle.std.specs.Prelude.{◌≡◌};
 ghost use Rattle.runs.specs.Reading.{ending_refusal, ending_full};
 

@@ -1,6 +1,8 @@
 // Document 01's own samples, run: its bench samples, its refusals, and its errors near at hand, through the library's entry points; the control bytes of
 // request 107, the lengths of request 103 and two boards of request 102. Each function here is proved safe and ending; what it answers is seen by running it.
 // tests/beside.c and tests/boards.c hold the library to a naive search, and to the document's machine, on many more codes and texts.
+#![tactic(auto)]
+
 mod bench;
 mod board;
 mod controls;

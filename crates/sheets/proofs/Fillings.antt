@@ -95,4 +95,4 @@ puts_mid {n} {cs} {ts} {a} {b} (v ∷ vs) f l h =
     let one = put_mid f v l (omega arith) in
     let at : suc (n + length ts) ≡ n + length (ts ++ (v ∷ [])) = omega (arith, length_snoc ts v) in
     rw (← append_snoc ts v vs, at)
-    (puts_mid vs one l (omega (arith, length_snoc ts v, length-set b (n + length ts) v)))
+    (puts_mid {ts = ts ++ (v ∷ [])} vs one l (omega (arith, length_snoc ts v, length-set b (n + length ts) v)))

@@ -1,6 +1,8 @@
 // Sheets (the automaton's tables in bytes): preparing the sheet of a code, and the check that a buffer begins with one.
 // Preparing follows the rule of Hancart's figure 5, each state's arrows from those of its longest border, and takes a number of steps linear in the code's
 // length. Short and wide sheets differ in the bytes of a number and in the 0 byte before a wide one: what is below exists once for both.
+#![tactic(auto)]
+
 ghost use Rattle.std.specs.Prelude.{◌≡◌, ◌&&◌, ◌+◌, ◌*◌, ◌≤◌, ◌<◌, leb, length, take};
 ghost use Rattle.std.proofs.lemmas.List.Edits.{sets};
 ghost use Rattle.words.specs.Words.{same};

@@ -2,6 +2,8 @@
 // of bytes that the system moved is by receipts, which the proofs of the first three functions make: these do nothing but call the system, and their contracts
 // say what each of its answers means. Whether that is true is read in them; what the other functions make of an answer is proved. `came` and `sent` count the
 // bytes read and written, and no program looks at them.
+#![tactic(auto)]
+
 ghost use Rattle.std.specs.Prelude.{◌≡◌, true, false, min, length};
 ghost use Rattle.forms.specs.Line.{goes_on};
 ghost use Rattle.forms.specs.Text.{refused_form};

@@ -2,6 +2,8 @@
 // each, the files that were not read to their end, and at the end what was counted.
 // `run` is the program, and its contract says what it does with the bytes that came. Only what the system did is left to reading, in crates/streams and
 // files.rt. `came` and `sent` count the bytes read and written, and nothing here looks at them.
+#![tactic(auto)]
+
 ghost use Rattle.std.specs.Prelude.{◌≡◌};
 ghost use Rattle.sweep.specs.Files.{kept_of, openings, no_descriptor};
 ghost use Rattle.sweep.specs.Program.{Ran};
