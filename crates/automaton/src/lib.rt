@@ -4,7 +4,7 @@
 
 
 // An arrow (a transition of the automaton) that is followed: a backward one with its target, the forward one, or none.
-#[derive(Drop)]
+#[derive(Clone, Copy)]
 pub enum Arrow {
     Back(u32),
     Forward,
@@ -12,7 +12,7 @@ pub enum Arrow {
 }
 
 // A step (one byte read): the new state, the number of labels compared, and the arrow followed.
-#[derive(Drop)]
+#[derive(Clone, Copy)]
 pub struct Step {
     pub state: u32,
     pub cost: u32,

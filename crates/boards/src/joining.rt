@@ -72,7 +72,7 @@ fn has_code(lengths: &[u32], bytes: &[u8], word: &[u8]) -> bool
 }
 
 // How many codes are listed, and where their bytes end.
-#[derive(Drop)]
+#[derive(Clone, Copy)]
 struct Extent {
     codes: usize,
     end: usize,

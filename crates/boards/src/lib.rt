@@ -30,7 +30,7 @@ pub use joining::join;
 pub use piece::feed;
 
 // A board's watch (the state of a scan): the automaton's state, the bytes taken since the opening, and the hits.
-#[derive(Drop)]
+#[derive(Clone, Copy)]
 pub struct Watch {
     pub state: u32,
     pub taken: u32,
@@ -54,7 +54,7 @@ impl Watch {
 }
 
 // What feeding answers: the new watch, the bytes of the piece that were taken, the hits written, and how it ended.
-#[derive(Drop)]
+#[derive(Clone, Copy)]
 pub struct Feeding {
     pub watch: Watch,
     pub taken: u32,

@@ -41,7 +41,7 @@ fn write_hits(
 }
 
 // Where the next bytes lead: the state, and the index behind them.
-#[derive(Drop)]
+#[derive(Clone, Copy)]
 struct Stride {
     state: usize,
     at: usize,

@@ -47,7 +47,7 @@ fn label_code(next: &mut [u16], bytes: &[u8], s: usize, l: usize)
 }
 
 // How far a code is followed: the state, and the number of its bytes.
-#[derive(Drop)]
+#[derive(Clone, Copy)]
 struct Followed {
     state: usize,
     depth: usize,

@@ -11,7 +11,7 @@ ghost use Rattle.codes.specs.Entry.{byte_answer, total_answer};
 pub const LONGEST: u32 = 4000;
 
 // What an entry point answers: a number, or the number of its refusal.
-#[derive(Drop)]
+#[derive(Clone, Copy)]
 pub enum Answer {
     Value(u64),
     Refused(u32),

@@ -9,7 +9,7 @@ use boards::{Feeding, Watch, feed, join, prepare};
 // What feeding a board answers: the watch, the hits written and the bytes taken in this call, the refusal's number (0 for none), and whether a list is full
 // with bytes of the piece left (1) or not (0).
 #[repr(C)]
-#[derive(Drop)]
+#[derive(Clone, Copy)]
 pub struct HitNumbers {
     pub state: u32,
     pub taken: u32,

@@ -13,7 +13,7 @@ mod board;
 
 // What preparing answers: the length of the sheet or board, or 0 and the refusal's number.
 #[repr(C)]
-#[derive(Drop)]
+#[derive(Clone, Copy)]
 pub struct PreparedNumbers {
     pub length: u64,
     pub refusal: u32,
@@ -22,7 +22,7 @@ pub struct PreparedNumbers {
 // What feeding answers: the watch, the bytes taken and the places written in this call, the refusal's number (0 for none), and whether the list is
 // full with bytes of the piece left (1) or not (0).
 #[repr(C)]
-#[derive(Drop)]
+#[derive(Clone, Copy)]
 pub struct FedNumbers {
     pub state: u32,
     pub taken: u32,

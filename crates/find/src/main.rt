@@ -11,6 +11,7 @@ ghost use Rattle.find.specs.Program.{GotInto, PiecePrinted, Searched, Ran};
 
 use finder::Watch;
 use forms::Line;
+use std::io::Stdin;
 use streams::Got;
 
 // The bytes of a piece; fewer make the last one.
@@ -26,12 +27,12 @@ const KEPT: usize = codes::LONGEST as usize + 1;
 const SHEET: usize = 5 * (codes::LONGEST as usize) + 5;
 
 // Reads until a buffer is full or the input ends, whatever each read brings.
-fn read_full(came: &mut u64, buffer: &mut [u8]) -> Got
+fn read_full(input: Stdin, came: &mut u64, buffer: &mut [u8]) -> Got
     ensures { GotInto (length buffer.old) came.old result came.new buffer.new }
 {
     let mut n = 0;
     while n < buffer.len() {
-        let got = streams::read_some(came, &mut buffer[n..]);
+        let got = streams::read_some(input, came, &mut buffer[n..]);
         match got {
             Got::Bytes(k) => {
                 if k == 0 {
@@ -72,7 +73,7 @@ fn prepare_line(line: Line, kept: &[u8; KEPT], sheet: &mut [u8]) -> u32
 }
 
 // What a piece leads to: the watch, the bytes to print, and whether more of the text is to be read.
-#[derive(Drop)]
+#[derive(Clone, Copy)]
 struct Printing {
     watch: Watch,
     printed: usize,
@@ -118,7 +119,7 @@ fn write_piece(
 }
 
 // How far a search has come: the watch, whether more of the text is to be read, and whether nothing failed.
-#[derive(Drop)]
+#[derive(Clone, Copy)]
 struct Progress {
     watch: Watch,
     more: bool,
@@ -152,6 +153,7 @@ fn print_piece(
 
 // Reads a piece, takes it and prints what it leads to.
 fn search_piece(
+    input: Stdin,
     sheet: &[u8],
     watch: Watch,
     buffer: &mut [u8; PIECE],
@@ -163,7 +165,7 @@ fn search_piece(
     ensures { Searched sheet.now watch came.old sent.old result came.new sent.new
         × Rises result.more came.old came.new }
 {
-    let got = read_full(came, buffer);
+    let got = read_full(input, came, buffer);
     match got {
         Got::Bytes(n) => print_piece(sheet, watch, buffer, n, places, out, sent),
         Got::Failed => Progress {
@@ -175,7 +177,7 @@ fn search_piece(
 }
 
 // Searches the text, as long as more of it is to come. Each turn counts bytes that came: so it ends.
-fn search(sheet: &[u8], came: &mut u64, sent: &mut u64) -> Progress
+fn search(input: Stdin, sheet: &[u8], came: &mut u64, sent: &mut u64) -> Progress
     ensures { (result.more ≡ false)
         × Searched sheet.now opened came.old sent.old result came.new sent.new }
 {
@@ -189,18 +191,18 @@ fn search(sheet: &[u8], came: &mut u64, sent: &mut u64) -> Progress
     };
     while scan.more {
         let watch = scan.watch;
-        scan = search_piece(sheet, watch, &mut buffer, &mut places, &mut out, came, sent);
+        scan = search_piece(input, sheet, watch, &mut buffer, &mut places, &mut out, came, sent);
     }
     scan
 }
 
 // The program; whether it is complete.
-fn run(came: &mut u64, sent: &mut u64) -> bool
+fn run(input: Stdin, came: &mut u64, sent: &mut u64) -> bool
     requires { (came.old ≡ 0) × (sent.old ≡ 0) }
     ensures { Ran result came.new sent.new }
 {
     let mut kept = [0u8; KEPT];
-    let start = streams::read_line(came, Line::Opening(0), &mut kept);
+    let start = streams::read_line(input, came, Line::Opening(0), &mut kept);
     if !start.ok {
         return false;
     }
@@ -210,12 +212,12 @@ fn run(came: &mut u64, sent: &mut u64) -> bool
     if number != 0 {
         return streams::print_refusal(sent, number);
     }
-    let scan = search(&sheet, came, sent);
+    let scan = search(input, &sheet, came, sent);
     scan.ok
 }
 
-fn main() {
+fn main(rt: HostRuntime) {
     let mut came = 0u64;
     let mut sent = 0u64;
-    run(&mut came, &mut sent);
+    run(rt.stdin(), &mut came, &mut sent);
 }

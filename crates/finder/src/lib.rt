@@ -20,7 +20,7 @@ pub use piece::feed;
 
 // A watch (the state of a scan), document 01's p, n, h and c: the automaton's state, the bytes taken since the opening, the places reported,
 // and the labels compared with bytes of the text.
-#[derive(Drop)]
+#[derive(Clone, Copy)]
 pub struct Watch {
     pub state: u32,
     pub taken: u32,
@@ -56,7 +56,7 @@ impl Watch {
 }
 
 // What a feeding answers: the new watch, the bytes taken and the places written in this call, and the ending.
-#[derive(Drop)]
+#[derive(Clone, Copy)]
 pub struct Feeding {
     pub watch: Watch,
     pub taken: u32,
@@ -112,7 +112,7 @@ fn label(code: &[u8], t: usize) -> u8
 // ONE BYTE: the labels of a state are compared with it.
 
 // What comparing backward labels came to: that of a target with this number is equal, or none is.
-#[derive(Drop)]
+#[derive(Clone, Copy)]
 enum Sought {
     At(usize),
     Nowhere,
@@ -192,7 +192,7 @@ fn least(a: usize, b: usize) -> usize
 
 // Where forward arrows have led: how many bytes followed one, how many backward labels were compared and were not equal, and the arrow of the byte behind them.
 // Behind the last byte of the piece or of the code none is looked at, and the arrow is `Forward`.
-#[derive(Drop)]
+#[derive(Clone, Copy)]
 struct Ahead {
     bytes: usize,
     failed: usize,
@@ -239,7 +239,7 @@ fn go_ahead(sheet: &[u8], code: &[u8], width: usize, p: usize, piece: &[u8], i: 
 }
 
 // Where some bytes of a piece have led: the state, what they cost, and the index behind them. Only the last of them may have completed a place.
-#[derive(Drop)]
+#[derive(Clone, Copy)]
 struct Led {
     state: usize,
     cost: u64,

@@ -11,7 +11,7 @@ use runs::Ending;
 use sheets::{code_start, is_sheet, number_width};
 
 // Where a turn of the loop over a piece has come to: the state, what its bytes cost, the index behind them, and the places written so far.
-#[derive(Drop)]
+#[derive(Clone, Copy)]
 struct Turn {
     state: usize,
     cost: u64,

@@ -62,6 +62,7 @@ decimal_is (suc (suc k)) n h =
 digits_few : (f n k : ℕ) → 1 ≤ k → n < 10 ^ k → length (digits_of f n) ≤ k
 unfolding digits_of
 digits_few zero n k h l = zero-le
+digits_few (suc f) n zero h l = elim h [ ]
 digits_few (suc f) n (suc zero) h l = rw (lt-ltb n 10 l) h
 digits_few (suc f) n (suc (suc k)) h l =
     by_le 10 n

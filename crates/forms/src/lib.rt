@@ -7,7 +7,7 @@ ghost use Rattle.forms.specs.Text.{decimal, place_form, place_forms, end_form, r
 ghost use Rattle.forms.specs.Line.{of_code, depth_after, line_after, kept_after, goes_on};
 
 // How far a code was read: so many of its bytes were kept, and so many of its brackets are open.
-#[derive(Drop)]
+#[derive(Clone, Copy)]
 pub struct Inside {
     pub kept: usize,
     pub depth: u64,
@@ -15,7 +15,7 @@ pub struct Inside {
 
 // How far the first line was read: so many bytes of `(code `; so far into the code; its closing bracket, with so many bytes of the code kept; the line
 // feed, and so the line is of its form; or it is not of its form.
-#[derive(Drop)]
+#[derive(Clone, Copy)]
 pub enum Line {
     Opening(usize),
     Code(Inside),

@@ -24,7 +24,7 @@ const CODE: usize = codes::LONGEST as usize;
 const SHEET: usize = 5 * CODE + 5;
 
 // What a line shows.
-#[derive(Drop)]
+#[derive(Clone, Copy)]
 struct Figures {
     m: u32,
     n: u32,

@@ -6,7 +6,7 @@ ghost use Rattle.std.specs.Prelude.{◌≡◌};
 ghost use Rattle.runs.specs.Reading.{ending_refusal, ending_full};
 
 // How a call ended: the piece is done, the list is full and bytes of the piece are left, or it was refused.
-#[derive(Drop)]
+#[derive(Clone, Copy)]
 pub enum Ending {
     PieceDone,
     ListFull,

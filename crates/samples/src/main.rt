@@ -21,7 +21,7 @@ const UNTOUCHED: u8 = 238;
 const UNWRITTEN: u32 = 4000000000;
 
 // How many samples were run, and how many of them came out otherwise than they should.
-#[derive(Drop)]
+#[derive(Clone, Copy)]
 struct Tally {
     run: usize,
     wrong: usize,

@@ -106,7 +106,7 @@ fn target_start(buffer: &[u8], m: usize, width: usize, p: usize) -> usize
 }
 
 // How far a sheet is filled: the targets stored, and the longest border of the next state.
-#[derive(Drop)]
+#[derive(Clone, Copy)]
 struct Filled {
     stored: usize,
     border: usize,

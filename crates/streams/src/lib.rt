@@ -11,26 +11,35 @@ ghost use Rattle.streams.specs.Receipts.{Came, Ended, Heard, Told, Answered, All
 ghost use Rattle.streams.specs.Streams.{DoneOrTold, ReadInto, SentOrTold, Rises, LineRead};
 
 use forms::Line;
+use std::io::{Read, Stdin};
+
+// The descriptors of standard output and standard error.
+const OUTPUT: i32 = 1;
+
+const ERROR: i32 = 2;
 
 // The system's read of standard input, of which `at` bytes have come.
-fn read_input(at: u64, part: &mut [u8]) -> isize
+fn read_input(mut input: Stdin, at: u64, part: &mut [u8]) -> isize
     ensures { Answered Came Ended at result part.new }
 {
-    libc::read(libc::STDIN_FILENO, part)
+    match input.read(part) {
+        Ok(n) => n as isize,
+        Err(_) => -1,
+    }
 }
 
 // The system's writing to standard output, behind `at` bytes; whether all were written.
 fn write_output(at: u64, bytes: &[u8]) -> bool
     ensures { result ≡ true → AllSent at bytes.now }
 {
-    io::write_all(libc::STDOUT_FILENO, bytes)
+    io::write_all(OUTPUT, bytes)
 }
 
 // The system's writing to standard error.
 fn write_error(bytes: &[u8])
     ensures { Heard bytes.now }
 {
-    io::write_all(libc::STDERR_FILENO, bytes);
+    io::write_all(ERROR, bytes);
 }
 
 // Says on standard error that the search is not complete. The output then has no end form.
@@ -55,17 +64,17 @@ fn count_on(count: &mut u64, n: usize) -> bool
 }
 
 // What was read: so many bytes, or a read failed.
-#[derive(Drop)]
+#[derive(Clone, Copy)]
 pub enum Got {
     Bytes(usize),
     Failed,
 }
 
 // One read of standard input: none only where it ends, if there is room for one.
-pub fn read_some(came: &mut u64, part: &mut [u8]) -> Got
+pub fn read_some(input: Stdin, came: &mut u64, part: &mut [u8]) -> Got
     ensures { ReadInto (min 1 (length part.old)) came.old result came.new part.new }
 {
-    let got = read_input(*came, part);
+    let got = read_input(input, *came, part);
     if got < 0 {
         give_up(b"the input could not be read");
         return Got::Failed;
@@ -98,7 +107,7 @@ pub fn print_refusal(sent: &mut u64, number: u32) -> bool
 }
 
 // A line as far as it was read, whether more of it is to be read, and whether nothing failed.
-#[derive(Drop)]
+#[derive(Clone, Copy)]
 pub struct Start {
     pub line: Line,
     pub more: bool,
@@ -106,13 +115,13 @@ pub struct Start {
 }
 
 // One more byte of the line. An input that ends is not of the form.
-fn read_byte(came: &mut u64, line: Line, kept: &mut [u8]) -> Start
+fn read_byte(input: Stdin, came: &mut u64, line: Line, kept: &mut [u8]) -> Start
     requires { goes_on line ≡ true }
     ensures { LineRead line kept.old came.old result kept.new came.new
         × Rises result.more came.old came.new }
 {
     let mut one = [0u8; 1];
-    let got = read_some(came, &mut one);
+    let got = read_some(input, came, &mut one);
     match got {
         Got::Bytes(n) => {
             if n == 0 {
@@ -138,7 +147,7 @@ fn read_byte(came: &mut u64, line: Line, kept: &mut [u8]) -> Start
 }
 
 // The line from where it was read to on, a byte at a time, so that what follows begins where the line ends. Each turn counts a byte that came: so it ends.
-pub fn read_line(came: &mut u64, line: Line, kept: &mut [u8]) -> Start
+pub fn read_line(input: Stdin, came: &mut u64, line: Line, kept: &mut [u8]) -> Start
     ensures { (result.more ≡ false) × LineRead line kept.old came.old result kept.new came.new }
 {
     let mut start = Start {
@@ -148,7 +157,7 @@ pub fn read_line(came: &mut u64, line: Line, kept: &mut [u8]) -> Start
     };
     while start.more {
         let so_far = start.line;
-        start = read_byte(came, so_far, kept);
+        start = read_byte(input, came, so_far, kept);
     }
     start
 }

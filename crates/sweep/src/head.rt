@@ -14,7 +14,7 @@ use streams::Got;
 const KEPT: usize = codes::LONGEST as usize + 1;
 
 // What the next line of the head is: a code, with so many of its bytes kept; the empty line; not of its form; or it could not be read.
-#[derive(Drop)]
+#[derive(Clone, Copy)]
 enum Next {
     Coded(usize),
     Empty,
@@ -69,7 +69,7 @@ fn read_next(came: &mut u64, kept: &mut [u8; KEPT]) -> Next
 }
 
 // The codes so far: how many lengths and how many bytes of them are kept, as many as have room, and whether one was empty, and one too long.
-#[derive(Drop)]
+#[derive(Clone, Copy)]
 struct Codes {
     count: usize,
     used: usize,
@@ -125,7 +125,7 @@ fn prepare_codes(list: Codes, lengths: &[u32], bytes: &[u8], board: &mut [u8; bo
 }
 
 // The head as it was read: what refuses it, 0 for nothing, and whether nothing failed.
-#[derive(Drop)]
+#[derive(Clone, Copy)]
 pub struct Head {
     pub refusal: u32,
     pub ok: bool,

@@ -18,7 +18,7 @@ const NAME: usize = libc::PATH_MAX;
 
 // How far a sweep has come: the bytes of the next path so far, as many as are kept; the files passed, and those of them not read to their end; the bytes
 // searched and the hits; the bytes gathered, and whether nothing failed.
-#[derive(Drop)]
+#[derive(Clone, Copy)]
 pub struct Sweep {
     pub name: usize,
     pub files: u64,
@@ -224,7 +224,7 @@ fn list_bytes(
 }
 
 // Where the reading of the list has come to: the sweep, whether more of the list is to be read, and whether nothing failed.
-#[derive(Drop)]
+#[derive(Clone, Copy)]
 pub struct Listing {
     pub sweep: Sweep,
     pub more: bool,

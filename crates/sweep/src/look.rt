@@ -18,7 +18,7 @@ pub const SPOTS: usize = 4096;
 pub const GATHERED: usize = 49 * SPOTS;
 
 // What a part of a piece leads to: the watch, the bytes of it that were taken, the bytes gathered, whether more may be taken, and whether nothing failed.
-#[derive(Drop)]
+#[derive(Clone, Copy)]
 pub struct Part {
     pub watch: Watch,
     pub taken: usize,
@@ -70,7 +70,7 @@ fn take_part(
 }
 
 // How far a look has come: the watch, the bytes gathered, whether more of the file is to be read, whether it was read to its end, and whether nothing failed.
-#[derive(Drop)]
+#[derive(Clone, Copy)]
 pub struct Look {
     pub watch: Watch,
     pub used: usize,

@@ -6,7 +6,7 @@ ghost use Rattle.sweep.specs.Forms.{hit_form, hit_forms, unread_form, total_form
 ghost use Rattle.sweep.specs.Saying.{Says, Made};
 
 // So many bytes of the buffer are gathered, and whether nothing failed.
-#[derive(Drop)]
+#[derive(Clone, Copy)]
 pub struct Room {
     pub used: usize,
     pub ok: bool,
