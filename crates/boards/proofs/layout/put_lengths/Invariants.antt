@@ -1,0 +1,18 @@
+-- `put_lengths` meets its contract. The loop keeps that the lengths passed are written. Assumes nothing.
+use mathlib.Core.Path.{◌≡◌}
+use Prim.Native.Nat.{◌-◌, ◌≤◌, zero-le}
+use native.Mathlib.Omega.{arith}
+use lib.ListN.{length, take, length-set}
+use lib.Seq.{take_all}
+use Rattle.words.proofs.Lists.{every_at}
+use Rattle.sheets.specs.Sheet.{numbers}
+use Rattle.boards.specs.Written.{Spliced}
+use Rattle.boards.proofs.Splices.{spliced_none, lengths_turn}
+use borrow.Author.Rules.{rules}
+use Rattle.boards.proofs.layout.put_lengths.Given as goal
+
+abbrev pub invariant-loop-i : goal.invariant-loop-i
+invariant-loop-i l = (l.i ≤ length l.lengths) × Spliced l.at (numbers 2 (take l.i l.lengths)) l.initial.area l.area
+
+abbrev pub decreases-loop-i : goal.decreases-loop-i
+decreases-loop-i l = length l.lengths - l.i

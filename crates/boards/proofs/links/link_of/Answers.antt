@@ -1,0 +1,41 @@
+-- `link_of` meets its contract. Assumes nothing.
+use mathlib.Core.Path.{sym, ◌∙◌}
+use native.Mathlib.Omega.{arith}
+use Rattle.starts.specs.Starts.{fallback}
+use Rattle.starts.proofs.Ends.{fallback_known}
+use Rattle.boards.proofs.Linking.{state_few, link_to, link_linked, link_none, link_next}
+use borrow.Author.Rules.{rules}
+use Rattle.boards.proofs.links.link_of.Goals as goal
+
+pub returns-then-g-eq0 : goal.returns-then-g-eq0
+returns-then-g-eq0 c = λ ws u t k e l. link_none ws u c.args.byte k (e ∙ c.if-g-eq0.true)
+
+pub overflow_mul-g : goal.overflow_mul-g
+overflow_mul-g c = let p = c.requires in omega (arith, state_few p.u p.is_tree p.known_is p.state_is)
+
+pub offset_bounds-links-g : goal.offset_bounds-links-g
+offset_bounds-links-g c = let p = c.requires in omega (arith, state_few p.u p.is_tree p.known_is p.state_is)
+
+pub bounds-links-g : goal.bounds-links-g
+bounds-links-g c =
+    let p = c.requires in
+    omega (arith, p.linked.long, state_few p.u p.is_tree p.known_is p.state_is)
+
+pub step-requires : goal.step-requires
+step-requires c =
+    let p = c.requires in
+    record {
+      ws = p.ws;
+      u = fallback p.ws p.u;
+      is_tree = p.is_tree;
+      known_is = fallback_known p.ws p.u;
+      state_is = sym (link_to p.u c.index.result p.linked p.known_is (omega arith) p.state_is c.index.ensures.0);
+      linked = link_linked p.u p.linked;
+    }
+
+pub returns : goal.returns
+returns c = λ ws u t k e l.
+    let s = c in
+    let to = link_to u c.index.result l k (omega arith) e c.index.ensures.0 in
+    link_next ws u s.args.byte c.step.result (λ z. s.if-g-eq0.false (sym e ∙ z))
+    (c.step.ensures ws (fallback ws u) t (fallback_known ws u) (sym to) (link_linked u l))

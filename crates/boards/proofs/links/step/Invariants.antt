@@ -1,0 +1,13 @@
+-- `step` meets its contract. Assumes nothing.
+use native.Mathlib.Omega.{arith}
+use Prim.Native.Nat.{◌+◌, ◌*◌}
+use lib.ListN.{get_or}
+use Rattle.boards.specs.Tables.{tree, ToldLinks}
+use Rattle.boards.proofs.Linking.{Way, way_start, way_child, way_none, way_back, way_less, way_few}
+use Rattle.boards.proofs.links.step.Given as goal
+
+abbrev pub invariant-loop-from : goal.invariant-loop-from
+invariant-loop-from l = ToldLinks (tree l.next l.forks l.keys l.heads) l.links l.from (λ ws u. Way ws u l.byte l.g)
+
+abbrev pub decreases-loop-from : goal.decreases-loop-from
+decreases-loop-from l = get_or l.links (2 * l.g + 1) 0

@@ -1,0 +1,26 @@
+-- `forward_step` meets its contract. The forward label of p is that of target p + 1. Assumes nothing.
+use mathlib.Core.Path.{◌∙◌, sym}
+use native.Mathlib.Numerals.{add-one}
+use native.Mathlib.Omega.{arith}
+use borrow.Author.Rules.{rules}
+use Rattle.automaton.proofs.Targets.{label_next}
+use Rattle.automaton.proofs.Steps.{forward_on, forward_off, forward_past}
+use Rattle.finder.proofs.forward_step.Goals as goal
+
+pub returns-then-label-byte : goal.returns-then-label-byte
+returns-then-label-byte c =
+    let a = c.args in
+    let w = a.code.now in
+    rw (add-one, add-one)
+    (sym (forward_on a.cost w a.p a.byte (omega arith) (sym (c.label.ensures ∙ label_next w a.p) ∙ c.if-label-byte.true)))
+
+pub returns-then-p-code : goal.returns-then-p-code
+returns-then-p-code c =
+    let a = c.args in
+    let w = a.code.now in
+    rw add-one
+    (sym
+    (forward_off a.cost w a.p a.byte (omega arith) (λ e. c.if-label-byte.false (c.label.ensures ∙ label_next w a.p ∙ e))))
+
+pub returns : goal.returns
+returns c = let a = c.args in sym (forward_past a.cost a.code.now a.p a.byte (omega arith))

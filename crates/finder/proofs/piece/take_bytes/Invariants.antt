@@ -1,0 +1,16 @@
+-- `take_bytes` meets its contract. The loop keeps that the bytes taken and the places written come before what is fed of the rest. Assumes nothing.
+use mathlib.Core.Logic.{⊎_elim}
+use Prim.Native.Nat.{◌-◌}
+use native.Mathlib.Omega.{arith}
+use borrow.Author.Rules.{rules}
+use borrow.Author.Tests.{ltb-true, ltb-false}
+use lib.ListN.{length}
+use Rattle.finder.proofs.Coded.{coded_bounds, coded_sized, coded_count}
+use Rattle.finder.proofs.Taking.{Loop, loop_start, loop_bounds, answer_done, answer_full, turning, turn_on}
+use Rattle.finder.proofs.piece.take_bytes.Given as goal
+
+abbrev pub invariant-loop-i : goal.invariant-loop-i
+invariant-loop-i l = Loop l.sheet l.code l.watch l.piece l.initial.places l.state l.cost l.i l.k l.places
+
+abbrev pub decreases-loop-i : goal.decreases-loop-i
+decreases-loop-i l = length l.piece - l.i

@@ -1,0 +1,9 @@
+-- `put_place` meets its contract. Assumes nothing.
+use borrow.Author.Rules.{rules}
+use Rattle.forms.specs.Text.{place_form}
+use Rattle.forms.proofs.Decimals.{place_short}
+use Rattle.forms.proofs.put_place.Goals as goal
+
+pub returns : goal.returns
+unfolding place_form
+returns c = (c.put_form.ensures, place_short _ c.ranges.place.fits)

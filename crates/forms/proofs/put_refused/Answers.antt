@@ -1,0 +1,9 @@
+-- `put_refused` meets its contract. Assumes nothing.
+use borrow.Author.Rules.{rules}
+use Rattle.forms.specs.Text.{refused_form}
+use Rattle.forms.proofs.Decimals.{refused_short}
+use Rattle.forms.proofs.put_refused.Goals as goal
+
+pub returns : goal.returns
+unfolding refused_form
+returns c = (c.put_form.ensures, refused_short _ c.ranges.number.fits)
