@@ -9,18 +9,13 @@ use lib.ListN.{length, take}
 use lib.Seq.{length-take-le, get_or-take}
 use lib.Signed.{lt_z}
 use Rattle.io.specs.Counts.{clamp_len}
-use Rattle.libc.specs.Io as libc
 use Rattle.words.specs.Words.{byte}
 use Rattle.streams.specs.Receipts.{Answered, CountedOn, Moved}
 
 -- A READ that is handed a buffer moves no more bytes than have room. The receipts are made where the system is called
-moved_within : {n k : ℕ} {z : ℤ} → libc.Moved n z → z ≡ pos k → k ≤ n
-moved_within m e = rw e at m
-
-pub answered : {P : ℕ → ℕ → Type 0} {E : ℕ → Type 0} {at n : ℕ} {z : ℤ} {b : List ℕ} →
-    libc.Moved n z → n ≡ length b → ((i c : ℕ) → P i c) → ((m : ℕ) → E m) → Answered P E at z b
-answered m same came over =
-    record { within = λ k e. rw same at (moved_within m e); bytes = λ k e i h. came _ _; ends = λ e h. over _ }
+pub answered : {P : ℕ → ℕ → Type 0} {E : ℕ → Type 0} {at : ℕ} {z : ℤ} {b : List ℕ} →
+    ((k : ℕ) → z ≡ pos k → k ≤ length b) → ((i c : ℕ) → P i c) → ((m : ℕ) → E m) → Answered P E at z b
+answered within came over = record { within = within; bytes = λ k e i h. came _ _; ends = λ e h. over _ }
 
 byte_of_front : (n : ℕ) (b : List ℕ) (i : ℕ) → i < n → byte (take n b) i ≡ byte b i
 unfolding byte
