@@ -1,6 +1,6 @@
 /* An example for the order desk: prints a code's sheet in hexadecimal and both of its ceilings. In the repository's root:
 
-       rt staticlib desk && gcc -O2 c/desk.c target/staticlib/libdesk.a -o target/desk
+       ./build desk && gcc -O2 c/desk.c target/staticlib/libdesk.a -o target/desk
        target/desk CODE [BYTES]
 
    BYTES is the length of the text for which the total ceiling is told, 1000000 if it is left out. Exit status: 0, 1 if the finder refuses the

@@ -1,4 +1,4 @@
-/* The C side of crates/entries: preparing, feeding and joining as the tests and the benchmark call them. `rt staticlib entries` makes the archive.
+/* The C side of crates/entries: preparing, feeding and joining as the tests and the benchmark call them. `./build entries` makes the archive.
 
    A Rattle slice is a pointer and a number of elements. The structs are #[repr(C)] in Rattle (PreparedNumbers, FedNumbers, HitNumbers), so they are
    laid out as C lays them out; the offsets are stated below. Memory that is written to must not overlap any other that is lent; what else is said of

@@ -1,9 +1,9 @@
 /* The code finder, as the order desk calls it from C.
 
-   The functions are in the archive that `rt staticlib desk` makes, target/staticlib/libdesk.a, for x86-64 Linux. This line, in the
+   The functions are in the archive that `./build desk` makes, target/staticlib/libdesk.a, for x86-64 Linux. This line, in the
    repository's root, makes the archive and the example target/desk; the archive comes after the C file:
 
-       rt staticlib desk && gcc -O2 c/desk.c target/staticlib/libdesk.a -o target/desk
+       ./build desk && gcc -O2 c/desk.c target/staticlib/libdesk.a -o target/desk
 
    ANSWERS. Each function answers its value, which is never negative, or minus the number of the refusal. Of several refusals the first is answered,
    in the order in which the function names them. A call that is refused changes nothing.
