@@ -1,5 +1,4 @@
 -- `top` meets its contract: 63 less the leading zeros is the exponent of the highest power of two up to m. Assumes nothing.
--- the zeros before the highest bit
 use mathlib.Core.Path.{◌≡◌}
 use Prim.Native.Nat.{suc, ◌+◌}
 use native.Mathlib.Omega.{arith}
@@ -9,6 +8,7 @@ use Rattle.automaton.proofs.Logarithm.{leading_zeros}
 use Rattle.bits.proofs.Bits.{top_zero, top_is}
 use Rattle.bits.proofs.top.Goals as goal
 
+-- the zeros before the highest bit
 zeros : (c : goal.Else-m-eq0) → count_leading_zeros 64 c.args.m + suc (log2 c.args.m) ≡ 64
 zeros c = leading_zeros 64 c.args.m (omega (arith, c.if-m-eq0.false)) c.ranges.m.fits
 

@@ -1,6 +1,5 @@
 -- `with_bit` meets its contract. Assumes nothing.
 use native.Mathlib.Omega.{arith}
-use borrow.Author.Rules.{rules}
 use Rattle.bits.proofs.Bits.{with_bit_put, with_bit_none}
 use Rattle.bits.proofs.with_bit.Goals as goal
 

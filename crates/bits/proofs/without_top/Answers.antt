@@ -1,11 +1,10 @@
 -- `without_top` meets its contract. Assumes nothing.
--- the highest bit's power is part of the word
 use Prim.Native.Nat.{◌^◌, ◌≤◌}
 use native.Mathlib.Omega.{arith}
-use borrow.Author.Rules.{rules}
 use Rattle.bits.proofs.Bits.{shifted_one, top_part, without_top_zero, without_top_less}
 use Rattle.bits.proofs.without_top.Goals as goal
 
+-- the highest bit's power is part of the word
 part : (c : goal.After-top) → 2 ^ c.top.result ≤ c.args.m
 part c = (top_part _ _ c.if-m-eq0.false c.ranges.m.fits c.top.ensures).0
 

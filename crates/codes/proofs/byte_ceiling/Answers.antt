@@ -1,7 +1,7 @@
 -- `byte_ceiling` meets its contract. Assumes nothing.
--- past the refusals the code has none
 use mathlib.Core.Path.{◌≡◌, sym, ap, ◌∙◌}
-use Prim.Native.Nat.{◌+◌}
+use mathlib.Core.List.{List}
+use Prim.Native.Nat.{ℕ, ◌+◌}
 use native.Mathlib.Omega.{arith}
 use lib.ListN.{length}
 use Rattle.automaton.specs.Ceilings.{byte_ceiling}
@@ -10,18 +10,18 @@ use Rattle.codes.specs.declared.Answer.TheVariants.{Value}
 use Rattle.codes.specs.Codes.{code_refusal}
 use Rattle.codes.specs.Entry.{byte_answer}
 use Rattle.codes.proofs.Refusals.{answered_value, answered_refusal, code_bounds}
-use borrow.Author.Rules.{rules}
 use Rattle.codes.proofs.byte_ceiling.Goals as goal
 
-none : (c : goal.Else-refusal-ne0) → code_refusal c.args.code.now ≡ 0
-none c = sym c.code_refusal-refusal.ensures ∙ c.if-refusal-ne0.false
+-- past the refusals the code has none
+none : (n : ℕ) (w : List ℕ) → n ≡ code_refusal w → n ≡ 0 → code_refusal w ≡ 0
+none n w told left = sym told ∙ left
 
 pub returns-then-refusal-ne0 : goal.returns-then-refusal-ne0
 unfolding byte_answer
 returns-then-refusal-ne0 c = cc (answered_refusal c.code_refusal-refusal.result (byte_ceiling c.args.code.now) c.if-refusal-ne0.true)
 
 pub log2-arrows-requires : goal.log2-arrows-requires
-log2-arrows-requires c = (code_bounds _ (none c)).0
+log2-arrows-requires c = (code_bounds _ (none _ _ c.code_refusal-refusal.ensures c.if-refusal-ne0.false)).0
 
 pub overflow_add-arrows : goal.overflow_add-arrows
 overflow_add-arrows c = omega (arith, c.log2-arrows.ensures, log2_bound (length c.args.code.now))
@@ -30,10 +30,10 @@ pub returns-then-arrows-bytes : goal.returns-then-arrows-bytes
 unfolding byte_answer byte_ceiling
 returns-then-arrows-bytes c =
     let least : 1 + c.log2-arrows.result ≡ byte_ceiling c.args.code.now = omega arith in
-    ap Value least ∙ sym (answered_value _ _ (none c))
+    ap Value least ∙ sym (answered_value _ _ (none _ _ c.code_refusal-refusal.ensures c.if-refusal-ne0.false))
 
 pub returns : goal.returns
 unfolding byte_answer byte_ceiling
 returns c =
     let least : c.different-bytes.result ≡ byte_ceiling c.args.code.now = omega arith in
-    ap Value least ∙ sym (answered_value _ _ (none c))
+    ap Value least ∙ sym (answered_value _ _ (none _ _ c.code_refusal-refusal.ensures c.if-refusal-ne0.false))

@@ -1,14 +1,13 @@
 -- `code_refusal` meets its contract. Assumes nothing.
--- past the first test the length has no refusal
 use mathlib.Core.Path.{◌≡◌, sym, ◌∙◌}
-use lib.ListN.{length}
-use borrow.Author.Rules.{rules}
+use Prim.Native.Nat.{ℕ}
 use Rattle.codes.specs.Codes.{length_refusal, longest_code}
 use Rattle.codes.proofs.Refusals.{code_by_length, code_control, code_good}
 use Rattle.codes.proofs.code_refusal.Goals as goal
 
-none : (c : goal.Else-refusal-ne0) → length_refusal longest_code (length c.args.code.now) ≡ 0
-none c = sym c.length_refusal-refusal.ensures ∙ c.if-refusal-ne0.false
+-- past the first test the length has no refusal
+none : (n m : ℕ) → n ≡ length_refusal longest_code m → n ≡ 0 → length_refusal longest_code m ≡ 0
+none n m told left = sym told ∙ left
 
 pub returns-then-refusal-ne0 : goal.returns-then-refusal-ne0
 returns-then-refusal-ne0 c =
@@ -16,7 +15,7 @@ returns-then-refusal-ne0 c =
     told ∙ sym (code_by_length _ (λ e. c.if-refusal-ne0.true (told ∙ e)))
 
 pub returns-then-has_control : goal.returns-then-has_control
-returns-then-has_control c = sym (code_control _ (none c) (sym c.has_control.ensures ∙ c.if-has_control.true))
+returns-then-has_control c = sym (code_control _ (none _ _ c.length_refusal-refusal.ensures c.if-refusal-ne0.false) (sym c.has_control.ensures ∙ c.if-has_control.true))
 
 pub returns : goal.returns
-returns c = sym (code_good _ (none c) (sym c.has_control.ensures ∙ c.if-has_control.false))
+returns c = sym (code_good _ (none _ _ c.length_refusal-refusal.ensures c.if-refusal-ne0.false) (sym c.has_control.ensures ∙ c.if-has_control.false))

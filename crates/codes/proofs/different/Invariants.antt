@@ -1,11 +1,7 @@
 -- `different` meets its contract. The loop keeps the table and the number of the different bytes from i on. Assumes nothing.
-use mathlib.Core.Bool.{true, false}
-use mathlib.Core.Logic.{⊎_elim}
-use Prim.Native.Nat.{◌+◌, ◌-◌, ◌≤◌}
-use native.Mathlib.Omega.{arith}
-use borrow.Author.Tests.{not-true, not-false}
+use Prim.Native.Nat.{◌+◌, ◌≤◌}
 use lib.ListN.{length, drop}
-use Rattle.codes.proofs.Tally.{Tally, tally_start, tally_turn, tally_end}
+use Rattle.codes.proofs.Tally.{Tally}
 use Rattle.codes.proofs.different.Given as goal
 
 abbrev pub invariant-loop-i : goal.invariant-loop-i

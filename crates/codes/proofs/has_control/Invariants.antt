@@ -1,10 +1,7 @@
 -- `has_control` meets its contract. Assumes nothing.
-use mathlib.Core.Path.{refl}
-use mathlib.Core.Logic.{⊎_elim}
 use Prim.Native.Nat.{◌-◌, ◌≤◌}
-use native.Mathlib.Omega.{arith}
 use lib.ListN.{length}
-use Rattle.codes.proofs.Controls.{LookedTo, look_found, look_next, look_end}
+use Rattle.codes.proofs.Controls.{LookedTo}
 use Rattle.codes.proofs.has_control.Given as goal
 
 abbrev pub invariant-loop-i : goal.invariant-loop-i

@@ -8,7 +8,6 @@ use Rattle.automaton.specs.Ceilings.{total_ceiling}
 use Rattle.codes.specs.Codes.{length_refusal, longest_code}
 use Rattle.codes.specs.Entry.{total_answer}
 use Rattle.codes.proofs.Refusals.{answered_value, answered_refusal, length_bounds}
-use borrow.Author.Rules.{rules}
 use Rattle.codes.proofs.total_ceiling.Goals as goal
 
 none : (c : goal.Else-refusal-ne0) → length_refusal longest_code c.args.m ≡ 0

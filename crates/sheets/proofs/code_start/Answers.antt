@@ -2,7 +2,6 @@
 use mathlib.Core.Path.{sym, ◌∙◌}
 use native.Mathlib.Omega.{arith}
 use Rattle.sheets.proofs.Widths.{short_start, wide_start, one_byte, two_bytes}
-use borrow.Author.Rules.{rules}
 use Rattle.sheets.proofs.code_start.Goals as goal
 
 pub returns-then-number_width-eq1 : goal.returns-then-number_width-eq1

@@ -1,7 +1,6 @@
 -- `count_place` meets its contract. On a short sheet or on a wide one. Assumes nothing.
 use mathlib.Core.Path.{sym, ◌∙◌}
 use Rattle.sheets.proofs.Widths.{short_count, wide_count, one_byte, two_bytes}
-use borrow.Author.Rules.{rules}
 use Rattle.sheets.proofs.count_place.Goals as goal
 
 pub returns-then-width-eq1 : goal.returns-then-width-eq1

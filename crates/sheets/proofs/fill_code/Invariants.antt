@@ -1,15 +1,10 @@
 -- `fill_code` meets its contract. The loop keeps that the bytes passed are in place. Assumes nothing.
-use mathlib.Core.Path.{◌≡◌, refl, ◌∙◌}
-use mathlib.Core.List.{List, [], ◌++◌, append-nil}
-use Prim.Native.Nat.{ℕ, ◌+◌, ◌-◌, ◌≤◌, zero-le}
-use native.Mathlib.Omega.{arith}
-use lib.Seq.{take_all}
-use lib.ListN.{length-set, length, take}
-use Rattle.sheets.specs.Sheet.{code_start, number_width, front, target_place}
+use mathlib.Core.Path.{◌≡◌}
+use mathlib.Core.List.{List, [], ◌++◌}
+use Prim.Native.Nat.{ℕ, ◌-◌, ◌≤◌}
+use lib.ListN.{length, take}
+use Rattle.sheets.specs.Sheet.{front, target_place}
 use Rattle.sheets.specs.Inside.{Filling, FrontMade}
-use Rattle.sheets.proofs.Widths.{width_range, start_range, places_before}
-use Rattle.sheets.proofs.Prepares.{room_before, code_more}
-use borrow.Author.Rules.{rules}
 use Rattle.sheets.proofs.fill_code.Given as goal
 
 abbrev pub invariant-loop-i : goal.invariant-loop-i

@@ -1,15 +1,9 @@
 -- `fill_state` meets its contract. The loop keeps that the targets passed are put, given that the first was. Assumes nothing.
 use mathlib.Core.List.{List}
 use Prim.Native.Nat.{ℕ, ◌-◌}
-use native.Mathlib.Omega.{arith}
-use lib.ListN.{length}
 use Rattle.automaton.specs.Arrows.{back_targets}
-use Rattle.sheets.specs.Sheet.{target_place}
-use Rattle.sheets.specs.Inside.{Reads, CountedIn, StateReady}
-use Rattle.sheets.proofs.Widths.{width_range}
-use Rattle.sheets.proofs.States.{Storing, Copying, border_under, end_in, start_in, first_ready, first_put, copy_start, number_under, next_ready, copy_on}
-use Rattle.sheets.proofs.States.{copy_done, copied_size}
-use Rattle.sheets.proofs.Prepares.{room_before, target_room}
+use Rattle.sheets.specs.Inside.{StateReady}
+use Rattle.sheets.proofs.States.{Storing, Copying}
 use Rattle.sheets.proofs.fill_state.Given as goal
 
 abbrev pub invariant-loop-i : goal.invariant-loop-i

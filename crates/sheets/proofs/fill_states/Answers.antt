@@ -1,7 +1,6 @@
 -- `fill_states` meets its contract. The loop keeps that the states below r are filled. Assumes nothing.
-use Prim.Native.Nat.{◌+◌, ◌-◌}
 use native.Mathlib.Omega.{arith}
-use Rattle.sheets.proofs.Prepares.{FillingStates, states_start, state_ready, count_writable, states_turn, states_done}
+use Rattle.sheets.proofs.Prepares.{states_start, state_ready, count_writable, states_turn, states_done}
 use Rattle.sheets.proofs.fill_states.Goals as goal
 
 pub loop-r-init : goal.loop-r-init
@@ -22,7 +21,7 @@ overflow_add-r c = let s = c.loop-r.invariant in omega (arith, s.fits.numbered.f
 pub loop-r-preserved : goal.loop-r-preserved
 loop-r-preserved c =
     let e = c.write_number in
-    states_turn c.loop-r.invariant c.loop-r-test.true c.fill_state-f.ensures e.new.0
+    states_turn c.loop-r.invariant c.loop-r-test.true c.fill_state-f.ensures e.new.buffer
     (rw c.count_place.ensures at e.ensures)
 
 pub shape_of-buffer : goal.shape_of-buffer

@@ -1,7 +1,6 @@
 -- `fill_states` meets its contract. The loop keeps that the states below r are filled. Assumes nothing.
 use Prim.Native.Nat.{◌+◌, ◌-◌}
-use native.Mathlib.Omega.{arith}
-use Rattle.sheets.proofs.Prepares.{FillingStates, states_start, state_ready, count_writable, states_turn, states_done}
+use Rattle.sheets.proofs.Prepares.{FillingStates}
 use Rattle.sheets.proofs.fill_states.Given as goal
 
 abbrev pub invariant-loop-r : goal.invariant-loop-r

@@ -1,6 +1,5 @@
 -- `is_fresh` meets its contract. Assumes nothing.
 use Rattle.sheets.proofs.Entries.{fresh}
-use borrow.Author.Rules.{rules}
 use Rattle.sheets.proofs.is_fresh.Goals as goal
 
 pub returns : goal.returns

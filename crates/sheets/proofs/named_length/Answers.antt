@@ -2,7 +2,6 @@
 use native.Mathlib.Omega.{arith}
 use borrow.Author.Tests.{eq-eqb, ne_eqb}
 use Rattle.sheets.specs.Sheet.{named_length}
-use borrow.Author.Rules.{rules}
 use Rattle.sheets.proofs.named_length.Goals as goal
 
 pub returns-then-buffer-eq0 : goal.returns-then-buffer-eq0

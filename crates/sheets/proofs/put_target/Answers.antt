@@ -1,17 +1,16 @@
 -- `put_target` meets its contract. Assumes nothing.
 use mathlib.Core.Path.{refl, ◌∙◌}
-use mathlib.Core.Logic.{⊎_elim}
 use native.Mathlib.Omega.{arith}
 use lib.ListN.{length}
 use Rattle.sheets.proofs.Prepares.{target_room, writable}
 use Rattle.sheets.proofs.States.{drops_on, drops_off, put_dropped, put_stored}
-use borrow.Author.Rules.{rules}
 use Rattle.sheets.proofs.put_target.Goals as goal
+use Rattle.sheets.proofs.put_target.Goals.{then-r-m+else-code-r, else-r-m}
 
 pub returns-then-code-r : goal.returns-then-code-r
 returns-then-code-r c =
     let a = c.args in
-    put_dropped a.code.now a.r a.t a.f a.buffer-1.now
+    put_dropped a.code.now a.r a.t a.f a.buffer.now
     (drops_on a.code.now a.r a.t c.if-r-m.true c.if-code-r.true)
 
 pub write_number-requires : goal.write_number-requires
@@ -25,9 +24,9 @@ pub returns : goal.returns
 returns c =
     let s = c in
     let a = s.args in
-    put_stored a.code.now a.r a.t a.f a.buffer-1.now
+    put_stored a.code.now a.r a.t a.f a.buffer.now
     (drops_off a.code.now a.r a.t
-    (λ h. ⊎_elim (λ v. v.3.left) (λ v. absurd (omega arith)) c.if-r-m.branch))
+    (λ h. elim c.if-r-m.branch [ then-r-m+else-code-r v ↦ v.if-code-r.false | else-r-m v ↦ absurd (omega arith) ]))
     _
     (c.write_number.ensures
     ∙ rw (c.target_place.ensures, s.requires.fits.numbered.width_is) refl)

@@ -1,7 +1,6 @@
 -- `read_number` meets its contract. A number of one byte, or of two. Assumes nothing.
 use native.Mathlib.Omega.{arith}
 use Rattle.sheets.proofs.Widths.{reads_one, reads_two}
-use borrow.Author.Rules.{rules}
 use Rattle.sheets.proofs.read_number.Goals as goal
 
 pub returns-then-width-eq1 : goal.returns-then-width-eq1

@@ -1,6 +1,5 @@
 -- `same_front` meets its contract. The loop keeps whether the bytes passed are the same. Assumes nothing.
 use mathlib.Core.Path.{◌≡◌, refl, ◌∙◌}
-use mathlib.Core.Logic.{⊎_elim}
 use Prim.Native.Nat.{◌+◌, ◌-◌, ◌≤◌, zero-le}
 use native.Mathlib.Omega.{arith}
 use lib.ListN.{length, take}
@@ -8,6 +7,7 @@ use borrow.Author.Tests.{le-leb, lt-leb}
 use Rattle.words.specs.Words.{same}
 use Rattle.sheets.proofs.SameFronts.{front_short, front_differs, front_same}
 use Rattle.sheets.proofs.same_front.Goals as goal
+use Rattle.sheets.proofs.same_front.Goals.{then-a-i, else-a-i}
 
 pub returns-then-b-n : goal.returns-then-b-n
 returns-then-b-n c = rw (lt-leb _ _ c.if-b-n.true) refl
@@ -28,10 +28,10 @@ loop-i-preserved c =
       omega arith,
       l.invariant.1,
       l.invariant.2,
-      ⊎_elim
-          (λ v. v.1 ∙ front_differs xs ys (l.i + 1) l.i (omega arith) v.0.taken)
-          (λ v. v.1 ∙ l.invariant.3 ∙ front_same xs ys l.i (omega arith) (omega arith) v.0.left)
-          c.if-a-i.branch,
+      elim c.if-a-i.branch [
+        | then-a-i v ↦ v.same-is ∙ front_differs xs ys (l.i + 1) l.i (omega arith) v.if-a-i.true
+        | else-a-i v ↦ v.same-is ∙ l.invariant.3 ∙ front_same xs ys l.i (omega arith) (omega arith) v.if-a-i.false
+      ],
     )
 
 pub returns : goal.returns

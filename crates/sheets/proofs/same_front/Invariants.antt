@@ -1,12 +1,8 @@
 -- `same_front` meets its contract. The loop keeps whether the bytes passed are the same. Assumes nothing.
-use mathlib.Core.Path.{◌≡◌, refl, ◌∙◌}
-use mathlib.Core.Logic.{⊎_elim}
-use Prim.Native.Nat.{◌+◌, ◌-◌, ◌≤◌, zero-le}
-use native.Mathlib.Omega.{arith}
+use mathlib.Core.Path.{◌≡◌}
+use Prim.Native.Nat.{◌-◌, ◌≤◌}
 use lib.ListN.{length, take}
-use borrow.Author.Tests.{le-leb, lt-leb}
 use Rattle.words.specs.Words.{same}
-use Rattle.sheets.proofs.SameFronts.{front_short, front_differs, front_same}
 use Rattle.sheets.proofs.same_front.Given as goal
 
 abbrev pub invariant-loop-i : goal.invariant-loop-i

@@ -1,7 +1,6 @@
 -- `target_end` meets its contract. Assumes nothing.
 use native.Mathlib.Omega.{arith}
 use Rattle.sheets.proofs.Widths.{width_range, count_inside}
-use borrow.Author.Rules.{rules}
 use Rattle.sheets.proofs.target_end.Goals as goal
 
 pub read_number-requires : goal.read_number-requires

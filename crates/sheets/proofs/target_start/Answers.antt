@@ -1,6 +1,5 @@
 -- `target_start` meets its contract. Assumes nothing.
 use Rattle.sheets.proofs.Widths.{start_none, start_above}
-use borrow.Author.Rules.{rules}
 use Rattle.sheets.proofs.target_start.Goals as goal
 
 pub returns-then-p-eq0 : goal.returns-then-p-eq0

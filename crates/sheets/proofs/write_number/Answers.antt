@@ -3,7 +3,6 @@ use Prim.Native.Nat.{◌/◌}
 use native.Mathlib.Omega.{arith}
 use lib.ListN.{length-set}
 use Rattle.sheets.proofs.Widths.{puts_one, puts_two}
-use borrow.Author.Rules.{rules}
 use Rattle.sheets.proofs.write_number.Goals as goal
 
 pub overflow_cast-buffer : goal.overflow_cast-buffer
