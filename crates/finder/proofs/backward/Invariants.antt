@@ -1,14 +1,8 @@
 -- `backward` meets its contract. The loop keeps that no label compared is the byte. Assumes nothing.
-use mathlib.Core.Path.{◌≡◌, refl, sym, ap, ◌∙◌}
 use Prim.Native.Nat.{◌-◌, ◌≤◌}
-use native.Mathlib.Omega.{arith}
-use borrow.Author.Rules.{rules}
 use mathlib.Core.Logic.{◌≢◌}
 use Rattle.automaton.specs.Arrows.{label}
 use Rattle.finder.specs.Inside.{Passed, target_of}
-use Rattle.finder.proofs.Passing.{passed_none, passed_next}
-use Rattle.finder.proofs.Coded.{coded_sized, coded_listed, coded_target}
-use Rattle.finder.proofs.Comparing.{target_inside}
 use Rattle.finder.proofs.backward.Given as goal
 
 abbrev pub invariant-loop-l : goal.invariant-loop-l

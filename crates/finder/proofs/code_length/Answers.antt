@@ -1,7 +1,6 @@
 -- `code_length` meets its contract. By the first byte of the sheet. Assumes nothing.
 use native.Mathlib.Omega.{arith}
 use Rattle.finder.proofs.Coded.{three_bytes, length_short, length_wide}
-use borrow.Author.Rules.{rules}
 use Rattle.finder.proofs.code_length.Goals as goal
 
 pub bounds-sheet-0 : goal.bounds-sheet-0

@@ -2,7 +2,6 @@
 use mathlib.Core.Path.{◌∙◌, sym}
 use native.Mathlib.Numerals.{add-one}
 use native.Mathlib.Omega.{arith}
-use borrow.Author.Rules.{rules}
 use Rattle.automaton.proofs.Targets.{label_next}
 use Rattle.automaton.proofs.Steps.{forward_on, forward_off, forward_past}
 use Rattle.finder.proofs.forward_step.Goals as goal

@@ -1,10 +1,7 @@
 -- `run` meets its contract. The loop keeps that the bytes so far lead on. Assumes nothing.
 use Prim.Native.Nat.{◌-◌}
-use native.Mathlib.Omega.{arith}
-use borrow.Author.Tests.{ltb-true, ltb-false}
 use lib.ListN.{length}
-use Rattle.finder.proofs.Walking.{Ran, ran_none, ran_reading, ran_more, ran_out, ran_to_start, ran_to_place}
-use borrow.Author.Rules.{rules}
+use Rattle.finder.proofs.Walking.{Ran}
 use Rattle.finder.proofs.run.Given as goal
 
 abbrev pub invariant-loop-i : goal.invariant-loop-i

@@ -1,7 +1,6 @@
 -- `target` meets its contract. Behind the counts are the targets of all states. Assumes nothing.
 use native.Mathlib.Omega.{arith}
 use Rattle.finder.proofs.Coded.{sized_bounds, short_target_room, short_target_is, wide_target_room, wide_target_is}
-use borrow.Author.Rules.{rules}
 use Rattle.finder.proofs.target.Goals as goal
 
 pub overflow_mul-m : goal.overflow_mul-m

@@ -1,7 +1,6 @@
 -- `targets_below` meets its contract. Behind the code there is a count for each state. Assumes nothing.
 use native.Mathlib.Omega.{arith}
 use Rattle.finder.proofs.Coded.{sized_bounds, short_count_room, short_count_is, wide_count_room, wide_count_is, few_counts}
-use borrow.Author.Rules.{rules}
 use Rattle.finder.proofs.targets_below.Goals as goal
 
 pub overflow_add-m : goal.overflow_add-m
