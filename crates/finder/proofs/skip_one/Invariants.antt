@@ -1,11 +1,7 @@
 -- `skip_one` meets its contract. The loop keeps that no byte passed is the one looked for. Assumes nothing.
-use mathlib.Core.Path.{refl}
 use Prim.Native.Nat.{◌-◌, ◌≤◌}
-use native.Mathlib.Omega.{arith}
-use borrow.Author.Rules.{rules}
 use lib.ListN.{length}
 use Rattle.finder.specs.Inside.{Other, Passed}
-use Rattle.finder.proofs.Passing.{passed_none, passed_next, stopped_found, stopped_end}
 use Rattle.finder.proofs.skip_one.Given as goal
 
 abbrev pub invariant-loop-i : goal.invariant-loop-i

@@ -1,11 +1,7 @@
 -- `stay` meets its contract. The loop keeps that every byte passed is the one that is passed over. Assumes nothing.
-use mathlib.Core.Path.{refl}
 use Prim.Native.Nat.{◌-◌, ◌≤◌}
-use native.Mathlib.Omega.{arith}
-use borrow.Author.Rules.{rules}
 use lib.ListN.{length}
 use Rattle.finder.specs.Inside.{Here, Passed}
-use Rattle.finder.proofs.Passing.{passed_none, passed_next, stopped_found, stopped_end}
 use Rattle.finder.proofs.stay.Given as goal
 
 abbrev pub invariant-loop-i : goal.invariant-loop-i

@@ -2,27 +2,19 @@
 use mathlib.Core.Path.{refl}
 use native.Mathlib.Omega.{arith}
 use Rattle.finder.proofs.Repeating.{turned_row, turned_left}
-use borrow.Author.Rules.{rules}
 use Rattle.finder.proofs.piece.from_whole.Goals as goal
 
 -- THE TURN, from what `repeat` has written
-abbrev entry : goal.After-repeat-n → goal.Start
-entry c = c
-
 pub returns-then-n-count : goal.returns-then-n-count
 returns-then-n-count c =
-    let k = c in
-    let b = entry k in
-    let q = b.pre.0 in
-    let least = k.least-count.ensures in
-    turned_left _ _ b.pre.1 q.some _ _ _ _ _ _ _ _ (rw k.label.ensures at k.repeat-n.ensures)
+    let q = c.requires.0 in
+    let least = c.least-count.ensures in
+    turned_left _ _ c.requires.1 q.some _ _ _ _ _ _ _ _ (rw c.label.ensures at c.repeat-n.ensures)
     (omega (arith, least, q.inside)) (omega (arith, least, q.room)) q.reached refl c.if-n-count.true
 
 pub returns : goal.returns
 returns c =
-    let k = c in
-    let b = entry k in
-    let q = b.pre.0 in
-    let least = k.least-count.ensures in
-    turned_row _ _ b.pre.1 q.some _ _ _ _ _ _ _ _ (rw k.label.ensures at k.repeat-n.ensures)
+    let q = c.requires.0 in
+    let least = c.least-count.ensures in
+    turned_row _ _ c.requires.1 q.some _ _ _ _ _ _ _ _ (rw c.label.ensures at c.repeat-n.ensures)
     (omega (arith, least, q.inside)) (omega (arith, least, q.room)) q.reached refl (omega (arith, least, q.inside, q.room, c.if-n-count.false))

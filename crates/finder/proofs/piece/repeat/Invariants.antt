@@ -1,8 +1,6 @@
 -- `repeat` meets its contract. The loop keeps that a place is written for each byte passed. Assumes nothing.
 use Prim.Native.Nat.{◌-◌}
-use native.Mathlib.Omega.{arith}
-use borrow.Author.Rules.{rules}
-use Rattle.finder.proofs.Repeating.{Row, row_none, row_bounds, row_next, row_stopped, row_end}
+use Rattle.finder.proofs.Repeating.{Row}
 use Rattle.finder.proofs.piece.repeat.Given as goal
 
 abbrev pub invariant-loop-j : goal.invariant-loop-j

@@ -1,12 +1,7 @@
 -- `take_bytes` meets its contract. The loop keeps that the bytes taken and the places written come before what is fed of the rest. Assumes nothing.
-use mathlib.Core.Logic.{⊎_elim}
 use Prim.Native.Nat.{◌-◌}
-use native.Mathlib.Omega.{arith}
-use borrow.Author.Rules.{rules}
-use borrow.Author.Tests.{ltb-true, ltb-false}
 use lib.ListN.{length}
-use Rattle.finder.proofs.Coded.{coded_bounds, coded_sized, coded_count}
-use Rattle.finder.proofs.Taking.{Loop, loop_start, loop_bounds, answer_done, answer_full, turning, turn_on}
+use Rattle.finder.proofs.Taking.{Loop}
 use Rattle.finder.proofs.piece.take_bytes.Given as goal
 
 abbrev pub invariant-loop-i : goal.invariant-loop-i
