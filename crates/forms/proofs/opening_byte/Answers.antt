@@ -1,7 +1,6 @@
 -- `opening_byte` meets its contract. Assumes nothing.
 use mathlib.Core.Path.{sym}
 use native.Mathlib.Omega.{arith}
-use borrow.Author.Rules.{rules}
 use Rattle.forms.proofs.Lines.{opening_more, opening_last, opening_wrong, opening_past}
 use Rattle.forms.proofs.opening_byte.Goals as goal
 

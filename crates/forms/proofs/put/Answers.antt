@@ -1,10 +1,8 @@
 -- `put` meets its contract. The loop keeps that the bytes passed are written. Assumes nothing.
-use mathlib.Core.Path.{◌≡◌, refl}
-use Prim.Native.Nat.{◌-◌, ◌≤◌, zero-le}
+use mathlib.Core.Path.{refl}
+use Prim.Native.Nat.{zero-le}
 use native.Mathlib.Omega.{arith}
 use borrow.Author.Rules.{rules}
-use lib.ListN.{length, take}
-use Rattle.forms.specs.Text.{Written}
 use Rattle.forms.proofs.Writing.{written_none, bytes_next, bytes_done}
 use Rattle.forms.proofs.put.Goals as goal
 
@@ -12,10 +10,7 @@ pub loop-i-init : goal.loop-i-init
 loop-i-init c = (zero-le, refl, written_none _ _)
 
 pub loop-i-preserved : goal.loop-i-preserved
-loop-i-preserved c =
-    let p = c in
-    let t = p in
-    (omega arith, search rules, bytes_next _ _ t.loop-i-test.true t.loop-i.invariant.2 p.put_byte-end.ensures)
+loop-i-preserved c = (omega arith, search rules, bytes_next _ _ c.loop-i-test.true c.loop-i.invariant.2 c.put_byte-end.ensures)
 
 pub returns : goal.returns
 returns c = bytes_done _ _ c.loop-i-test.false c.loop-i.invariant.2

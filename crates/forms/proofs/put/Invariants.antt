@@ -1,11 +1,8 @@
 -- `put` meets its contract. The loop keeps that the bytes passed are written. Assumes nothing.
-use mathlib.Core.Path.{◌≡◌, refl}
-use Prim.Native.Nat.{◌-◌, ◌≤◌, zero-le}
-use native.Mathlib.Omega.{arith}
-use borrow.Author.Rules.{rules}
+use mathlib.Core.Path.{◌≡◌}
+use Prim.Native.Nat.{◌-◌, ◌≤◌}
 use lib.ListN.{length, take}
 use Rattle.forms.specs.Text.{Written}
-use Rattle.forms.proofs.Writing.{written_none, bytes_next, bytes_done}
 use Rattle.forms.proofs.put.Given as goal
 
 abbrev pub invariant-loop-i : goal.invariant-loop-i

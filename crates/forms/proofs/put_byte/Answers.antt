@@ -1,5 +1,4 @@
 -- `put_byte` meets its contract. By whether there is room. Assumes nothing.
-use borrow.Author.Rules.{rules}
 use Rattle.forms.proofs.Writing.{written_byte, written_full}
 use Rattle.forms.proofs.put_byte.Goals as goal
 

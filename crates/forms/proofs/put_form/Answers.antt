@@ -1,5 +1,4 @@
 -- `put_form` meets its contract. Assumes nothing.
-use borrow.Author.Rules.{rules}
 use Rattle.forms.proofs.Writing.{written_on}
 use Rattle.forms.proofs.put_form.Goals as goal
 

@@ -1,5 +1,4 @@
 -- `put_place` meets its contract. Assumes nothing.
-use borrow.Author.Rules.{rules}
 use Rattle.forms.specs.Text.{place_form}
 use Rattle.forms.proofs.Decimals.{place_short}
 use Rattle.forms.proofs.put_place.Goals as goal

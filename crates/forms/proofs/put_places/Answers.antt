@@ -1,10 +1,9 @@
 -- `put_places` meets its contract. The loop keeps that the forms of the places passed are written. Assumes nothing.
-use mathlib.Core.Path.{◌≡◌, refl}
-use Prim.Native.Nat.{◌*◌, ◌-◌, ◌≤◌, zero-le}
+use mathlib.Core.Path.{refl}
+use Prim.Native.Nat.{zero-le}
 use native.Mathlib.Omega.{arith}
 use borrow.Author.Rules.{rules}
-use lib.ListN.{length, take}
-use Rattle.forms.specs.Text.{place_forms, Written}
+use Rattle.forms.specs.Text.{place_forms}
 use Rattle.forms.proofs.Writing.{written_none, places_next, places_done, places_few, places_all}
 use Rattle.forms.proofs.put_places.Goals as goal
 

@@ -1,5 +1,4 @@
 -- `put_refused` meets its contract. Assumes nothing.
-use borrow.Author.Rules.{rules}
 use Rattle.forms.specs.Text.{refused_form}
 use Rattle.forms.proofs.Decimals.{refused_short}
 use Rattle.forms.proofs.put_refused.Goals as goal

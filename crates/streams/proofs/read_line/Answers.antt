@@ -1,8 +1,6 @@
 -- `read_line` meets its contract: the loop is left only when no more of the line is to come. Assumes nothing.
-use mathlib.Core.Path.{◌≡◌, refl}
-use lib.ListN.{length}
-use Rattle.streams.specs.Streams.{LineRead}
-use Rattle.streams.proofs.Moving.{turns_left, fewer_left}
+use mathlib.Core.Path.{refl}
+use Rattle.streams.proofs.Moving.{fewer_left}
 use Rattle.streams.proofs.FirstLine.{line_started, line_goes, line_turned}
 use borrow.Author.Rules.{rules}
 use Rattle.streams.proofs.read_line.Goals as goal

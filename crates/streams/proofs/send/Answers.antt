@@ -2,7 +2,6 @@
 use mathlib.Core.Path.{refl}
 use Rattle.streams.specs.Receipts.{unmoved}
 use Rattle.streams.proofs.Moving.{is_told}
-use borrow.Author.Rules.{rules}
 use Rattle.streams.proofs.send.Goals as goal
 
 pub returns-then-write_output : goal.returns-then-write_output

@@ -1,6 +1,5 @@
 -- `write_output` meets its contract: it makes the receipts. Assumes nothing.
 use Rattle.streams.specs.Receipts.{make_sent}
-use borrow.Author.Rules.{rules}
 use Rattle.streams.proofs.write_output.Goals as goal
 
 pub returns : goal.returns
