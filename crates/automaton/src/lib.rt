@@ -2,7 +2,6 @@
 // Its arrows, ceilings and theorems are in specs/ and proofs/, for words of any length.
 #![tactic(auto)]
 
-
 // An arrow (a transition of the automaton) that is followed: a backward one with its target, the forward one, or none.
 #[derive(Clone, Copy)]
 pub enum Arrow {

@@ -28,10 +28,10 @@ pub returns : goal.returns
 returns c =
     let t = c.loop-i.invariant in
     elim c.if-i-piece.branch [
-      then-i-piece v ↦
+      | then-i-piece v ↦
           answer_full t c.if-i-piece.ending v.ending-is v.if-i-piece.true
           (elim c.loop-i-test.branch [
-            then-loop-i-test+else-k-places u ↦ u.if-k-places.false
+            | then-loop-i-test+else-k-places u ↦ u.if-k-places.false
             | else-loop-i-test u ↦ absurd (omega (arith, v.if-i-piece.true, u.loop-i-test.false))
           ])
       | else-i-piece v ↦ answer_done t c.if-i-piece.ending v.ending-is v.if-i-piece.false
