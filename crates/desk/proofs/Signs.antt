@@ -48,7 +48,3 @@ refusal_signed a n is below =
     ∙ ap (λ (k : ℤ). pos 0 -ℤ k) (small_toZ n below)
     ∙ +ℤ_idl (neg_ℤ (pos n))
     ∙ sym (ap signed is)
-
--- what an entry point hands on: the signed number of the answer that it got
-pub handed_on : {r : ℤ} {a b : Answer} → mag r < 2 ^ 63 → r ≡ signed a → a ≡ b → to_z w64 (of_z w64 r) ≡ signed b
-handed_on fits is same = to_z-of_z (record { sfits = fits }) ∙ is ∙ ap signed same

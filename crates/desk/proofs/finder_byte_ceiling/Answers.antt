@@ -1,11 +1,7 @@
 -- `finder_byte_ceiling` meets its contract. Assumes nothing.
 use borrow.Author.Rules.{rules}
 use Rattle.desk.proofs.Limits.{byte_answer_fits}
-use Rattle.desk.proofs.Signs.{handed_on}
 use Rattle.desk.proofs.finder_byte_ceiling.Goals as goal
 
 pub signed-requires : goal.signed-requires
 signed-requires c = search (c.byte_ceiling.ensures, byte_answer_fits, rules)
-
-pub returns : goal.returns
-returns c = handed_on c.signed.type_inv c.signed.ensures c.byte_ceiling.ensures

@@ -1,4 +1,5 @@
 -- `put_line` meets its contract. Assumes nothing.
+use native.Mathlib.Omega.{arith}
 use Rattle.forms.proofs.Writing.{written_on}
 use Rattle.reached.specs.Figures.{figures_form}
 use Rattle.reached.proofs.Counting.{figures_short}
@@ -7,17 +8,10 @@ use Rattle.reached.proofs.put_line.Goals as goal
 
 pub returns : goal.returns
 unfolding figures_form
-returns c =
-    let last = c in
-    let fourth = last in
-    let third = fourth in
-    let second = third in
-    let first = second in
-    let k = first.struct_known-1.given in
-    let s = first in (
-      written_on
-          (written_on
-          (written_on (written_on first.put_number-a.ensures second.put_number-b.ensures) third.put_number-c.ensures) fourth.put_number-d.ensures)
-          last.put.ensures,
-      figures_short s.args.start.now s.args.f s.requires.0 k.0.fits k.1.0.fits k.1.1.0.fits k.1.1.1.0.fits,
-    )
+returns c = (
+    written_on
+        (written_on
+        (written_on (written_on c.put_number-a.ensures c.put_number-b.ensures) c.put_number-c.ensures) c.put_number-d.ensures)
+        c.put.ensures,
+    figures_short c.args.start.now c.args.f c.requires.0 (omega arith) (omega arith) (omega arith) (omega arith),
+  )

@@ -1,6 +1,0 @@
--- `hit_numbers` meets its contract: the ending's two numbers. Assumes nothing.
-use borrow.Author.Rules.{rules}
-use Rattle.entries.proofs.board.hit_numbers.Goals as goal
-
-pub returns : goal.returns
-returns c = cc
