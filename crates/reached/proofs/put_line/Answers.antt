@@ -9,9 +9,9 @@ use Rattle.reached.proofs.put_line.Goals as goal
 pub returns : goal.returns
 unfolding figures_form
 returns c = (
-    written_on
-        (written_on
-        (written_on (written_on c.put_number-a.ensures c.put_number-b.ensures) c.put_number-c.ensures) c.put_number-d.ensures)
-        c.put.ensures,
-    figures_short c.args.start.now c.args.f c.requires.0 (omega arith) (omega arith) (omega arith) (omega arith),
-  )
+  written_on
+      (written_on
+      (written_on (written_on c.put_number-a.ensures c.put_number-b.ensures) c.put_number-c.ensures) c.put_number-d.ensures)
+      c.put.ensures,
+  figures_short c.args.start.now c.args.f c.requires.0 (omega arith) (omega arith) (omega arith) (omega arith),
+)
