@@ -1,6 +1,5 @@
 -- `common` meets its contract. Assumes nothing.
 use Rattle.boards.specs.Fronts.{common_at}
-use borrow.Author.Rules.{rules}
 use Rattle.boards.proofs.fronts.common.Goals as goal
 
 pub returns : goal.returns

@@ -1,9 +1,7 @@
 -- `fill_from` meets its contract. The loop keeps that the words from the first one on up to c have all bits. Assumes nothing.
 use Prim.Native.Nat.{◌-◌}
-use native.Mathlib.Omega.{arith}
-use borrow.Author.Rules.{rules}
 use lib.ListN.{length}
-use Rattle.boards.proofs.FirstBytes.{Filling, filling_none, filling_next, filling_all}
+use Rattle.boards.proofs.FirstBytes.{Filling}
 use Rattle.boards.proofs.fronts.fill_from.Given as goal
 
 abbrev pub invariant-loop-c : goal.invariant-loop-c

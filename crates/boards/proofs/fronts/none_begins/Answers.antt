@@ -1,6 +1,5 @@
--- `none_begins` meets its contract. Assumes nothing.
+-- `none_begins` meets its contract. Where pairs of words have nothing in common, four have not. Assumes nothing.
 use Prim.Native.Nat.{◌+◌}
-use borrow.Author.Rules.{rules}
 use borrow.Author.Tests.{eqb-true}
 use Rattle.boards.specs.Fronts.{pair_at, common_at}
 use Rattle.boards.proofs.FirstBytes.{four_none, pair_none}

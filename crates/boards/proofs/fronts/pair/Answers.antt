@@ -1,6 +1,5 @@
 -- `pair` meets its contract. Assumes nothing.
 use Rattle.boards.specs.Fronts.{pair_at}
-use borrow.Author.Rules.{rules}
 use Rattle.boards.proofs.fronts.pair.Goals as goal
 
 pub returns : goal.returns

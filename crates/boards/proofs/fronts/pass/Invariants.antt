@@ -1,11 +1,7 @@
 -- `pass` meets its contract. The loop keeps that the words of a byte passed have nothing in common. Assumes nothing.
-use mathlib.Core.Path.{refl, sym, ◌∙◌}
 use Prim.Native.Nat.{◌-◌}
-use native.Mathlib.Omega.{arith}
-use borrow.Author.Rules.{rules}
 use lib.ListN.{length}
 use Rattle.boards.specs.Fronts.{Passed}
-use Rattle.boards.proofs.FirstBytes.{passed_one}
 use Rattle.boards.proofs.fronts.pass.Given as goal
 
 abbrev pub invariant-loop-i : goal.invariant-loop-i

@@ -1,12 +1,7 @@
 -- `pass_blocks` meets its contract. The loop keeps that no code begins at a byte passed. Assumes nothing.
-use mathlib.Core.Path.{refl}
-use Prim.Native.Nat.{ℕ, ◌+◌, ◌-◌}
-use native.Mathlib.Omega.{arith}
-use borrow.Author.Rules.{rules}
-use borrow.Author.Tests.{not-false}
+use Prim.Native.Nat.{◌-◌}
 use lib.ListN.{length}
 use Rattle.boards.specs.Fronts.{Passed}
-use Rattle.boards.proofs.FirstBytes.{passed_none, passed_four}
 use Rattle.boards.proofs.fronts.pass_blocks.Given as goal
 
 abbrev pub invariant-loop-i : goal.invariant-loop-i

@@ -1,10 +1,6 @@
 -- `put_code` meets its contract. The loop keeps that the rows below q have the code's bit. Assumes nothing.
-use mathlib.Core.Path.{◌≡◌}
 use Prim.Native.Nat.{◌-◌, ◌≤◌}
-use native.Mathlib.Omega.{arith}
-use borrow.Author.Rules.{rules}
 use Rattle.boards.specs.Fronts.{CodePut}
-use Rattle.boards.proofs.FirstBytes.{code_put_none, code_put_next}
 use Rattle.boards.proofs.fronts.put_code.Given as goal
 
 abbrev pub invariant-loop-q : goal.invariant-loop-q

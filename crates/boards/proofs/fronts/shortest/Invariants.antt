@@ -1,9 +1,7 @@
 -- `shortest` meets its contract. The loop keeps that no length so far is below `depth`. Assumes nothing.
 use Prim.Native.Nat.{◌-◌}
-use native.Mathlib.Omega.{arith}
-use borrow.Author.Rules.{rules}
 use lib.ListN.{length}
-use Rattle.boards.proofs.FirstBytes.{ShortestOf, shortest_none, shortest_next, shortest_all}
+use Rattle.boards.proofs.FirstBytes.{ShortestOf}
 use Rattle.boards.proofs.fronts.shortest.Given as goal
 
 abbrev pub invariant-loop-i : goal.invariant-loop-i

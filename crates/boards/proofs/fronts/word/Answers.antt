@@ -1,6 +1,5 @@
 -- `word` meets its contract. Assumes nothing.
 use Rattle.boards.specs.Fronts.{word_at}
-use borrow.Author.Rules.{rules}
 use Rattle.boards.proofs.fronts.word.Goals as goal
 
 pub returns : goal.returns

@@ -1,10 +1,7 @@
 -- `has_code` meets its contract. The loop keeps that the word is one of the codes exactly if it is one of those not looked at. Assumes nothing.
-use mathlib.Core.Path.{sym, ◌∙◌}
-use Prim.Native.Nat.{◌+◌, ◌-◌, ◌≤◌}
-use native.Mathlib.Omega.{arith}
+use Prim.Native.Nat.{◌-◌, ◌≤◌}
 use lib.ListN.{length}
-use borrow.Author.Rules.{rules}
-use Rattle.boards.proofs.Listed.{Looking, look_start, look_fits, look_found, look_next, look_end}
+use Rattle.boards.proofs.Listed.{Looking}
 use Rattle.boards.proofs.joining.has_code.Given as goal
 
 abbrev pub invariant-loop-i : goal.invariant-loop-i

@@ -1,60 +1,29 @@
--- `list_codes` meets its contract. The loop keeps that the codes before the next one are listed. Assumes nothing.
-use Prim.Native.Nat.{◌+◌, ◌-◌, ◌≤◌}
+-- `list_codes` meets its contract. By the lemmas on codes listed in their turn. Assumes nothing.
+use Prim.Native.Nat.{◌+◌, ◌-◌}
 use native.Mathlib.Omega.{arith}
-use lib.ListN.{length, drop, length-take}
-use borrow.Author.Rules.{rules}
-use Rattle.boards.specs.Board.{cut}
-use Rattle.boards.proofs.Listed.{Going, going_start, going_fits, going_room, going_turn, going_end}
+use lib.ListN.{drop, length-take}
+use Rattle.boards.proofs.Listed.{going_start, going_fits, going_room, going_turn, going_end}
 use Rattle.boards.proofs.joining.list_codes.Goals as goal
-
--- the loop, what came in, and the room of the code looked at
-abbrev loop : goal.After-long-l invariant-loop decreases-loop → goal.At-loop-i invariant-loop decreases-loop
-loop c = c
-
-abbrev entry : goal.At-loop-i invariant-loop decreases-loop → goal.Start invariant-loop decreases-loop
-entry c = c
-
-fits : (c : goal.After-long-l invariant-loop decreases-loop) → let l = loop c in l.loop-i.at + c.long-l.result ≤ length (entry l).args.second.now
-fits c = let l = loop c in going_fits (entry l).pre.1 l.loop-i.invariant (omega arith) c.long-l.ensures.0
-
--- from the turn's end to the code's length
-abbrev turn : goal.After-list_code-r invariant-loop decreases-loop → goal.After-long-l invariant-loop decreases-loop
-turn c = c
 
 pub loop-i-init : goal.loop-i-init
 loop-i-init c = going_start _ _ _ _ _ _ _
 
 pub overflow_add-at : goal.overflow_add-at
-overflow_add-at c = omega (arith, fits c, (entry (loop c)).good.1.1.1.0.1)
+overflow_add-at c = omega (arith, going_fits c.requires.1 c.loop-i.invariant c.loop-i-test.true c.long-l.ensures.0)
 
-pub UNKNOWN-slice-bounds-list-code-end : goal.UNKNOWN-slice-bounds-list-code-end
-UNKNOWN-slice-bounds-list-code-end c = fits c
+pub slice_bounds-list_code-end : goal.slice_bounds-list_code-end
+slice_bounds-list_code-end c = going_fits c.requires.1 c.loop-i.invariant c.loop-i-test.true c.long-l.ensures.0
 
 pub list_code-r-requires : goal.list_code-r-requires
 list_code-r-requires c =
-    let v = c in
-    let l = loop v in
-    let s = entry l in (
-      s.pre.0,
-      omega (arith, v.long-l.ensures.1, length-take (l.loop-i.at + v.long-l.result - l.loop-i.at) (drop l.loop-i.at s.args.second.now)),
-      going_room s.pre.1 l.loop-i.invariant (omega arith) v.long-l.ensures.0 s.pre.2,
+    let at = c.loop-i.at in (
+      c.requires.0,
+      omega (arith, c.long-l.ensures.1, length-take (at + c.long-l.result - at) (drop at c.args.second.now)),
+      going_room c.requires.1 c.loop-i.invariant c.loop-i-test.true c.long-l.ensures.0 c.requires.2,
     )
 
-pub overflow_add-at-in-loop-i : goal.overflow_add-at-in-loop-i
-overflow_add-at-in-loop-i c = let v = turn c in omega (arith, fits v, (entry (loop v)).good.1.1.1.0.1)
-
 pub loop-i-preserved : goal.loop-i-preserved
-loop-i-preserved c =
-    let r = c in
-    let v = turn r in
-    let l = loop v in
-    going_turn (entry l).pre.1 l.loop-i.invariant (omega arith) v.long-l.ensures.0 r.List-code.ensures
-
-pub shape_of-lengths : goal.shape_of-lengths
-shape_of-lengths c = c.loop-i.invariant.done.lengths_long
-
-pub shape_of-bytes : goal.shape_of-bytes
-shape_of-bytes c = c.loop-i.invariant.done.bytes_long
+loop-i-preserved c = going_turn c.requires.1 c.loop-i.invariant c.loop-i-test.true c.long-l.ensures.0 c.list_code-r.ensures
 
 pub returns : goal.returns
-returns c = let l = c in going_end (entry l).requires.1 l.loop-i.invariant (omega arith)
+returns c = going_end c.requires.1 c.loop-i.invariant c.loop-i-test.false
