@@ -1,11 +1,7 @@
 -- `put_bytes` meets its contract. The loop keeps that the bytes passed are written. Assumes nothing.
-use mathlib.Core.Path.{◌≡◌}
-use Prim.Native.Nat.{◌-◌, ◌≤◌, zero-le}
-use native.Mathlib.Omega.{arith}
+use Prim.Native.Nat.{◌-◌, ◌≤◌}
 use lib.ListN.{length, take}
-use lib.Seq.{take_all}
 use Rattle.boards.specs.Written.{Spliced}
-use Rattle.boards.proofs.Splices.{spliced_none, bytes_turn}
 use Rattle.boards.proofs.layout.put_bytes.Given as goal
 
 abbrev pub invariant-loop-i : goal.invariant-loop-i

@@ -1,14 +1,8 @@
 -- `put_lengths` meets its contract. The loop keeps that the lengths passed are written. Assumes nothing.
-use mathlib.Core.Path.{◌≡◌}
-use Prim.Native.Nat.{◌-◌, ◌≤◌, zero-le}
-use native.Mathlib.Omega.{arith}
-use lib.ListN.{length, take, length-set}
-use lib.Seq.{take_all}
-use Rattle.words.proofs.Lists.{every_at}
+use Prim.Native.Nat.{◌-◌, ◌≤◌}
+use lib.ListN.{length, take}
 use Rattle.sheets.specs.Sheet.{numbers}
 use Rattle.boards.specs.Written.{Spliced}
-use Rattle.boards.proofs.Splices.{spliced_none, lengths_turn}
-use borrow.Author.Rules.{rules}
 use Rattle.boards.proofs.layout.put_lengths.Given as goal
 
 abbrev pub invariant-loop-i : goal.invariant-loop-i

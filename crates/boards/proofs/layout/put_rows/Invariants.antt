@@ -1,11 +1,6 @@
 -- `put_rows` meets its contract. The loop keeps that the rows of the states passed are written. Assumes nothing.
-use mathlib.Core.Path.{◌≡◌, refl}
-use Prim.Native.Nat.{◌-◌, ◌≤◌, zero-le}
-use native.Mathlib.Omega.{arith}
-use lib.ListN.{length-set}
+use Prim.Native.Nat.{◌-◌, ◌≤◌}
 use Rattle.boards.specs.Written.{Spliced, rows_in}
-use Rattle.boards.proofs.Splices.{spliced_none, rows_turn}
-use borrow.Author.Rules.{rules}
 use Rattle.boards.proofs.layout.put_rows.Given as goal
 
 abbrev pub invariant-loop-g : goal.invariant-loop-g

@@ -1,9 +1,6 @@
--- `first_bits` meets its contract. Assumes nothing.
-use mathlib.Core.Path.{◌≡◌}
-use native.Mathlib.Omega.{arith}
+-- `first_bits` meets its contract. The loop keeps that the bits passed are set. Assumes nothing.
 use Prim.Native.Nat.{◌-◌, ◌≤◌}
 use Rattle.boards.specs.Tables.{FirstBits}
-use Rattle.boards.proofs.Linking.{first_bits_none, first_bits_more}
 use Rattle.boards.proofs.links.first_bits.Given as goal
 
 abbrev pub invariant-loop-j : goal.invariant-loop-j

@@ -1,14 +1,13 @@
--- `link_of` meets its contract. Assumes nothing.
+-- `link_of` meets its contract: after state 0 it is state 0, else a step from the failure link. Assumes nothing.
 use mathlib.Core.Path.{sym, ◌∙◌}
 use native.Mathlib.Omega.{arith}
 use Rattle.starts.specs.Starts.{fallback}
 use Rattle.starts.proofs.Ends.{fallback_known}
 use Rattle.boards.proofs.Linking.{state_few, link_to, link_linked, link_none, link_next}
-use borrow.Author.Rules.{rules}
 use Rattle.boards.proofs.links.link_of.Goals as goal
 
 pub returns-then-g-eq0 : goal.returns-then-g-eq0
-returns-then-g-eq0 c = λ ws u t k e l. link_none ws u c.args.byte k (e ∙ c.if-g-eq0.true)
+returns-then-g-eq0 c ws u t k e l = link_none ws u c.args.byte k (e ∙ c.if-g-eq0.true)
 
 pub overflow_mul-g : goal.overflow_mul-g
 overflow_mul-g c = let p = c.requires in omega (arith, state_few p.u p.is_tree p.known_is p.state_is)
@@ -34,8 +33,7 @@ step-requires c =
     }
 
 pub returns : goal.returns
-returns c = λ ws u t k e l.
-    let s = c in
+returns c ws u t k e l =
     let to = link_to u c.index.result l k (omega arith) e c.index.ensures.0 in
-    link_next ws u s.args.byte c.step.result (λ z. s.if-g-eq0.false (sym e ∙ z))
+    link_next ws u c.args.byte c.step.result (λ z. c.if-g-eq0.false (sym e ∙ z))
     (c.step.ensures ws (fallback ws u) t (fallback_known ws u) (sym to) (link_linked u l))

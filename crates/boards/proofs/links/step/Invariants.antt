@@ -1,9 +1,8 @@
--- `step` meets its contract. Assumes nothing.
-use native.Mathlib.Omega.{arith}
+-- `step` meets its contract. The loop keeps that from the start of g the same is reached. Assumes nothing.
 use Prim.Native.Nat.{◌+◌, ◌*◌}
 use lib.ListN.{get_or}
 use Rattle.boards.specs.Tables.{tree, ToldLinks}
-use Rattle.boards.proofs.Linking.{Way, way_start, way_child, way_none, way_back, way_less, way_few}
+use Rattle.boards.proofs.Linking.{Way}
 use Rattle.boards.proofs.links.step.Given as goal
 
 abbrev pub invariant-loop-from : goal.invariant-loop-from

@@ -1,11 +1,8 @@
 -- `follow` meets its contract. The loop keeps that the bytes passed are a start, and its state. Assumes nothing.
-use mathlib.Core.Path.{refl, sym}
 use mathlib.Core.List.{List}
 use Prim.Native.Nat.{ℕ, ◌-◌, ◌≤◌}
-use native.Mathlib.Omega.{arith}
-use borrow.Author.Rules.{rules}
 use Rattle.boards.specs.Tables.{tree, Tree, part}
-use Rattle.boards.proofs.Trees.{Going, going_start, going_more, going_stop, going_end}
+use Rattle.boards.proofs.Trees.{Going}
 use Rattle.boards.proofs.tree.follow.Given as goal
 
 abbrev pub invariant-loop-d : goal.invariant-loop-d

@@ -1,9 +1,6 @@
 -- `label_code` meets its contract. The loop keeps that the bytes passed are labels. Assumes nothing.
 use Prim.Native.Nat.{◌+◌, ◌-◌, ◌≤◌}
-use native.Mathlib.Omega.{arith}
-use borrow.Author.Rules.{rules}
 use Rattle.boards.specs.Tables.{Labelled}
-use Rattle.boards.proofs.Trees.{labels_more, labels_end}
 use Rattle.boards.proofs.tree.label_code.Given as goal
 
 abbrev pub invariant-loop-i : goal.invariant-loop-i
