@@ -191,7 +191,16 @@ fn search(input: Stdin, sheet: &[u8], came: &mut u64, sent: &mut u64) -> Progres
     };
     while scan.more {
         let watch = scan.watch;
-        scan = search_piece(input, sheet, watch, &mut buffer, &mut places, &mut out, came, sent);
+        scan = search_piece(
+            input,
+            sheet,
+            watch,
+            &mut buffer,
+            &mut places,
+            &mut out,
+            came,
+            sent,
+        );
     }
     scan
 }

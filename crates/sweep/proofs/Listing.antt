@@ -11,6 +11,7 @@ use Rattle.words.proofs.Tests.{by-eq}
 use Rattle.streams.specs.Receipts.{Came, Ended, Sent, Told, Moved}
 use Rattle.streams.specs.Streams.{DoneOrTold, Brought, Rises}
 use Rattle.streams.proofs.Moving.{is_done, is_told, moved_none, moved_join}
+use Rattle.sweep.specs.declared.files.Disk.{Disk}
 use Rattle.sweep.specs.declared.list.Sweep.{Sweep}
 use Rattle.sweep.specs.declared.list.Listing.{Listing}
 use Rattle.sweep.specs.Forms.{total_form}
@@ -26,7 +27,7 @@ abbrev stands : Sweep → (more ok : Bool) → Listing
 stands s t k = record { sweep = s; more = t; ok = k }
 
 -- NOTHING of the list has come yet
-pub list_started : (buffer : List ℕ) (s : Sweep) (path disk : List ℕ) (at from : ℕ) (a : List ℕ) → Ready s disk a →
+pub list_started : (buffer : List ℕ) (s : Sweep) (path : List ℕ) (disk : Disk) (at from : ℕ) (a : List ℕ) → Ready s disk a →
     Listed buffer s path at from a (stands s true true) path disk at from a
 list_started buffer s path disk at from a h =
     record {
@@ -40,7 +41,7 @@ list_started buffer s path disk at from a h =
 
 -- A BLOCK is read: the list has ended, some bytes of it came, or the read failed
 module _ (buffer : List ℕ) (s : Sweep) (path : List ℕ) (at from : ℕ) (a : List ℕ) where
-  pub list_ended : {disk : List ℕ} {full n after : ℕ} {block : List ℕ} → Ready s disk a → Brought full at n after block → n ≡ 0 → 1 ≤ full →
+  pub list_ended : {disk : Disk} {full n after : ℕ} {block : List ℕ} → Ready s disk a → Brought full at n after block → n ≡ 0 → 1 ≤ full →
       Listed buffer s path at from a (stands s false true) path disk after from a × Rises false at after
   list_ended h r z one = (
     record {
@@ -54,7 +55,7 @@ module _ (buffer : List ℕ) (s : Sweep) (path : List ℕ) (at from : ℕ) (a : 
     λ e. absurd (true≢false (sym e)),
   )
 
-  pub list_went : {full n after to : ℕ} {block path-after disk-after b : List ℕ} {t : Sweep} → Brought full at n after block → n ≢ 0 →
+  pub list_went : {full n after to : ℕ} {block path-after : List ℕ} {disk-after : Disk} {b : List ℕ} {t : Sweep} → Brought full at n after block → n ≢ 0 →
       ListedOn buffer (take n block) s path from a t path-after disk-after to b →
       Listed buffer s path at from a (stands t t.ok t.ok) path-after disk-after after to b × Rises t.ok at after
   list_went {n = n} {block = block} r z l = (
@@ -71,7 +72,7 @@ module _ (buffer : List ℕ) (s : Sweep) (path : List ℕ) (at from : ℕ) (a : 
         (omega (arith, r.came.counted.exact), r.came.counted.fits (omega arith)),
   )
 
-  pub list_failed : (disk : List ℕ) {after : ℕ} → Told × (after ≡ at) →
+  pub list_failed : (disk : Disk) {after : ℕ} → Told × (after ≡ at) →
       Listed buffer s path at from a (stands s false false) path disk after from a × Rises false at after
   list_failed disk t = (
     record {
@@ -87,7 +88,7 @@ module _ (buffer : List ℕ) (s : Sweep) (path : List ℕ) (at from : ℕ) (a : 
 
 -- BLOCK AFTER BLOCK
 pub list_turned : {buffer : List ℕ} {s : Sweep} {path : List ℕ} {at from : ℕ} {a : List ℕ}
-    {q : Listing} {path-mid disk-mid : List ℕ} {mid via : ℕ} {b : List ℕ} {r : Listing} {path-after disk-after : List ℕ} {after to : ℕ} {c : List ℕ} →
+    {q : Listing} {path-mid : List ℕ} {disk-mid : Disk} {mid via : ℕ} {b : List ℕ} {r : Listing} {path-after : List ℕ} {disk-after : Disk} {after to : ℕ} {c : List ℕ} →
     Listed buffer s path at from a q path-mid disk-mid mid via b → q.more ≡ true →
     Listed buffer q.sweep path-mid mid via b r path-after disk-after after to c →
     Listed buffer s path at from a r path-after disk-after after to c
@@ -131,7 +132,7 @@ finished_sent {s} n f e g =
 abbrev first_sweep : Sweep
 first_sweep = record { name = 0; files = 0; unread = 0; bytes = 0; hits = 0; used = 0; ok = true }
 
-pub first_ready : (disk out : List ℕ) → openings disk ≡ 0 → Holds disk → Ready first_sweep disk out
+pub first_ready : (disk : Disk) (out : List ℕ) → openings disk ≡ 0 → Holds disk → Ready first_sweep disk out
 first_ready disk out z h = record { fine = refl; inside = zero-le; short = zero-le; opened = z; holds = h; few = zero-le }
 
 first_swept : (ws : List (List ℕ)) (path : List ℕ) (sent : ℕ) (out : List ℕ) → sent ≡ 0 → Swept ws [] first_sweep path sent out
@@ -212,7 +213,7 @@ module _ {ws : List (List ℕ)} where
         let w = f.within n in
         (w.1, list_stopped came (rw (append-nil bytes, ← w.2) at (swept_stopped [] v))))
 
-module _ {buffer path disk : List ℕ} {at from : ℕ} {a : List ℕ} {l : Listing} {path-after disk-after : List ℕ} {after via : ℕ} {b : List ℕ}
+module _ {buffer path : List ℕ} {disk : Disk} {at from : ℕ} {a : List ℕ} {l : Listing} {path-after : List ℕ} {disk-after : Disk} {after via : ℕ} {b : List ℕ}
     (g : Listed buffer first_sweep path at from a l path-after disk-after after via b) where
   pub sweeps_stopped : l.ok ≡ false → Sweeps buffer disk at from false after via
   sweeps_stopped e =

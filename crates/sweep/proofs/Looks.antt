@@ -12,12 +12,13 @@ use Rattle.boards.specs.Feed.{opened}
 use Rattle.streams.specs.Receipts.{Moved}
 use Rattle.streams.specs.Streams.{Rises}
 use Rattle.streams.proofs.Moving.{moved_none, moved_join}
+use Rattle.sweep.specs.declared.files.Disk.{Disk}
 use Rattle.sweep.specs.declared.look.Look.{Look}
 use Rattle.sweep.specs.Forms.{hit_forms}
 use Rattle.sweep.specs.Files.{Held, Missed, openings, came_of, IsOpen, FileOpened, FileBrought}
 use Rattle.sweep.specs.Saying.{Says}
 use Rattle.sweep.specs.Looking.{piece_most, PieceTaken, Looked, PathLooked}
-use Rattle.sweep.proofs.Filing.{holds_none}
+use Rattle.sweep.proofs.Filing.{holds_none, open_holds}
 use Rattle.sweep.proofs.Saying.{says_none, says_join}
 use Rattle.sweep.proofs.Wording.{hits_append}
 use Rattle.sweep.proofs.Parts.{goes_none, goes_join}
@@ -30,8 +31,8 @@ pub no_rise : (at after : ℕ) → Rises false at after
 no_rise at after e = absurd (true≢false (sym e))
 
 -- ONE READ: the file has ended, the read failed, or a piece came
-module _ (buffer : List ℕ) (file : ℕ) (x : Watch) {disk : List ℕ} {from u : ℕ} {a : List ℕ} (inside : u ≤ length a) where
-  pub look_ended : {k : ℕ} {e b : List ℕ} → openings e ≡ openings disk → FileBrought disk k e b → k ≡ 0 → 1 ≤ length b →
+module _ (buffer : List ℕ) (file : ℕ) (x : Watch) {disk : Disk} {from u : ℕ} {a : List ℕ} (inside : u ≤ length a) where
+  pub look_ended : {k : ℕ} {e : Disk} {b : List ℕ} → openings e ≡ openings disk → FileBrought disk k e b → k ≡ 0 → 1 ≤ length b →
       Looked buffer file x disk from u a (look x u false true true) e from a
   unfolding hit_forms
   look_ended s f z h =
@@ -48,7 +49,7 @@ module _ (buffer : List ℕ) (file : ℕ) (x : Watch) {disk : List ℕ} {from u 
         unread = λ _ _ e. absurd (true≢false e);
       }
 
-  pub look_failed : {e : List ℕ} → openings e ≡ openings disk → came_of e ≡ came_of disk → Missed (openings disk) →
+  pub look_failed : {e : Disk} → openings e ≡ openings disk → came_of e ≡ came_of disk → Missed (openings disk) →
       Looked buffer file x disk from u a (look x u false false true) e from a
   unfolding hit_forms
   look_failed s n m =
@@ -65,7 +66,7 @@ module _ (buffer : List ℕ) (file : ℕ) (x : Watch) {disk : List ℕ} {from u 
         unread = λ _ _ _. record { missed = true; why = (m, refl) };
       }
 
-pub look_taken : {buffer : List ℕ} {file : ℕ} {x : Watch} {disk : List ℕ} {from u : ℕ} {a : List ℕ} {k : ℕ} {e b : List ℕ} {r : Look} {to : ℕ} {c : List ℕ} →
+pub look_taken : {buffer : List ℕ} {file : ℕ} {x : Watch} {disk : Disk} {from u : ℕ} {a : List ℕ} {k : ℕ} {e : Disk} {b : List ℕ} {r : Look} {to : ℕ} {c : List ℕ} →
     openings e ≡ openings disk → FileBrought disk k e b → k ≢ 0 → length b ≡ piece_most → PieceTaken buffer file x (take k b) from u a r to c →
     Looked buffer file x disk from u a r e to c × Rises r.more (came_of disk) (came_of e)
 look_taken {disk = disk} {k = k} {e} {b} s f n most p = (
@@ -94,7 +95,7 @@ look_taken {disk = disk} {k = k} {e} {b} s f n most p = (
         omega (arith, most, f.within, length-append p.bytes p.left, length-take-le k b f.within)
 
 -- NOTHING READ yet, and ONE AFTER ANOTHER
-pub look_none : (buffer : List ℕ) (file : ℕ) (x : Watch) (disk : List ℕ) (from u : ℕ) (a : List ℕ) → u ≤ length a →
+pub look_none : (buffer : List ℕ) (file : ℕ) (x : Watch) (disk : Disk) (from u : ℕ) (a : List ℕ) → u ≤ length a →
     Looked buffer file x disk from u a (look x u true false true) disk from a
 unfolding hit_forms
 look_none buffer file x disk from u a h =
@@ -111,7 +112,7 @@ look_none buffer file x disk from u a h =
       unread = λ _ e. absurd (true≢false e);
     }
 
-pub look_join : {buffer : List ℕ} {file : ℕ} {x : Watch} {disk via after : List ℕ} {from mid to u : ℕ} {a b c : List ℕ} {q r : Look} →
+pub look_join : {buffer : List ℕ} {file : ℕ} {x : Watch} {disk via after : Disk} {from mid to u : ℕ} {a b c : List ℕ} {q r : Look} →
     Looked buffer file x disk from u a q via mid b → q.more ≡ true → Looked buffer file q.watch via mid q.used b r after to c →
     Looked buffer file x disk from u a r after to c
 look_join {buffer} {file} {x} {disk} {via} {after} {from} {mid} {to} {u} {a} {b} {c} {q} {r} f m g =
@@ -134,7 +135,7 @@ look_join {buffer} {file} {x} {disk} {via} {after} {from} {mid} {to} {u} {a} {b}
     }
 
 -- THE FILE OF A PATH: it was not opened, or it was looked at
-pub path_missed : (buffer : List ℕ) (file : ℕ) {path disk after : List ℕ} {from u : ℕ} {a : List ℕ} {t : Bool} →
+pub path_missed : (buffer : List ℕ) (file : ℕ) {path : List ℕ} {disk after : Disk} {from u : ℕ} {a : List ℕ} {t : Bool} →
     u ≤ length a → FileOpened path disk t after → t ≡ false →
     PathLooked buffer file path disk from u a (look opened u false false true) after from a
 unfolding hit_forms
@@ -153,7 +154,7 @@ path_missed buffer file {after = after} {from} {u} {a} h f t =
       unread = λ _ _. record { missed = true; why = (f.fails t, refl) };
     }
 
-pub path_looked : {buffer : List ℕ} {file : ℕ} {path disk via after : List ℕ} {from u to : ℕ} {a b : List ℕ} {r : Look} {t : Bool} →
+pub path_looked : {buffer : List ℕ} {file : ℕ} {path : List ℕ} {disk via after : Disk} {from u to : ℕ} {a b : List ℕ} {r : Look} {t : Bool} →
     FileOpened path disk t via → t ≡ true → r.more ≡ false → Looked buffer file opened via from u a r after to b → IsOpen after →
     PathLooked buffer file path disk from u a r after to b
 path_looked {via = via} {after} f t m g i =
@@ -163,7 +164,7 @@ path_looked {via = via} {after} f t m g i =
       left = g.left;
       told = g.told;
       next = g.same ∙ f.next;
-      holds = record { given = λ _. i.given };
+      holds = open_holds i;
       asked = rw g.same f.asked;
       goes = g.goes;
       came = rw g.same (subst (λ (n : ℕ). Moved (Held (openings via)) n (came_of after) (g.bytes ++ g.left)) f.none g.came);

@@ -16,6 +16,7 @@ use Rattle.boards.specs.Promise.{BoardsAccepted}
 use Rattle.boards.specs.Runs.{RunFound, EntriesFind}
 use Rattle.boards.proofs.Accepting.{boards_accepted}
 use Rattle.boards.proofs.Running.{entries_find}
+use Rattle.sweep.specs.declared.files.Disk.{Disk}
 use Rattle.sweep.specs.declared.look.Look.{Look}
 use Rattle.sweep.specs.Forms.{hit_forms, unread_form}
 use Rattle.sweep.specs.Files.{Missed, openings, came_of, longest_path}
@@ -63,12 +64,12 @@ kept_whole {name} {n} {path} k h =
     k.front ∙ take_all (suc longest_path) name (omega arith)
 
 -- THE FILE of a name after a look at it
-abbrev pub plan_of : {buffer : List ℕ} {file : ℕ} {path disk : List ℕ} {from u : ℕ} {a : List ℕ} {r : Look} {disk-after : List ℕ} {to : ℕ} {b : List ℕ} →
+abbrev pub plan_of : {buffer : List ℕ} {file : ℕ} {path : List ℕ} {disk : Disk} {from u : ℕ} {a : List ℕ} {r : Look} {disk-after : Disk} {to : ℕ} {b : List ℕ} →
     (name : List ℕ) → PathLooked buffer file path disk from u a r disk-after to b → Plan
 plan_of {r = r} name p = record { path = name; text = p.bytes; whole = r.whole }
 
 module _ {ws : List (List ℕ)} {buffer : List ℕ} (on : OnBoard ws buffer) {name : List ℕ} {n : ℕ} {path : List ℕ} (kept : Kept name n path)
-    {file : ℕ} {disk : List ℕ} {from u : ℕ} {a : List ℕ} {r : Look} {disk-after : List ℕ} {to : ℕ} {b : List ℕ}
+    {file : ℕ} {disk : Disk} {from u : ℕ} {a : List ℕ} {r : Look} {disk-after : Disk} {to : ℕ} {b : List ℕ}
     (p : PathLooked buffer file (take n path) disk from u a r disk-after to b) where
   abbrev pub plan_came : CameOf (openings disk-after) (plan_of name p)
   plan_came = record { left = p.left; after = came_of disk-after; came = p.came }

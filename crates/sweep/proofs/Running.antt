@@ -9,6 +9,7 @@ use Rattle.forms.specs.Text.{refused_form}
 use Rattle.streams.specs.Receipts.{Came, Sent, Told, Broken, unmoved, Moved}
 use Rattle.streams.specs.Streams.{SentOrTold, SomeCame}
 use Rattle.streams.proofs.Moving.{is_told, moved_none, moved_join}
+use Rattle.sweep.specs.declared.files.Disk.{Disk}
 use Rattle.sweep.specs.Files.{openings}
 use Rattle.sweep.specs.Head.{Headed, RightHead}
 use Rattle.sweep.specs.Program.{Sweeps, RunStopped, Ran}
@@ -58,7 +59,7 @@ module _
     head_right : RightHead h.bytes refusal buffer
     head_right = h.right (omega arith)
 
-    pub ran_swept : {disk : List ℕ} {r : Bool} {after to : ℕ} → Sweeps buffer disk mid from r after to → openings disk ≡ 0 → Ran r after to
+    pub ran_swept : {disk : Disk} {r : Bool} {after to : ℕ} → Sweeps buffer disk mid from r after to → openings disk ≡ 0 → Ran r after to
     ran_swept g unopened =
         let q = head_right in
         let s = g.sweeps q.codes (q.prepared none) unopened zero-sent in

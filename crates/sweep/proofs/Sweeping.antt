@@ -15,6 +15,7 @@ use Rattle.streams.proofs.Moving.{is_done, is_told}
 use Rattle.sweep.specs.declared.look.Look.{Look}
 use Rattle.sweep.specs.declared.list.Sweep.{Sweep}
 use Rattle.sweep.specs.Forms.{hit_forms, unread_form}
+use Rattle.sweep.specs.declared.files.Disk.{Disk}
 use Rattle.sweep.specs.Files.{openings, longest_path}
 use Rattle.sweep.specs.Saying.{Said, Cut, Says}
 use Rattle.sweep.specs.Looking.{OnBoard, PathLooked}
@@ -126,7 +127,7 @@ module _ (s : Sweep) (look : Look) (from : ℕ) (a : List ℕ) (inside : look.us
 
 -- A FILE that was looked at and passed
 module _ (path : List ℕ) {s : Sweep} {look : Look} {mid : ℕ} {b : List ℕ} {r : Sweep} {to : ℕ} {c : List ℕ} (q : Passed s look mid b r to c)
-    {buffer disk : List ℕ} {from : ℕ} {a disk-after : List ℕ}
+    {buffer : List ℕ} {disk : Disk} {from : ℕ} {a : List ℕ} {disk-after : Disk}
     (p : PathLooked buffer s.files (take s.name path) disk from s.used a look disk-after mid b) where
   -- what is said of it
   passed_says : look.ok ≡ true → (all : List ℕ) → Said from s.used a all →
@@ -233,7 +234,7 @@ module _ (s : Sweep) (n : ℕ) where
   abbrev with_name : Sweep
   with_name = record { name = n; files = s.files; unread = s.unread; bytes = s.bytes; hits = s.hits; used = s.used; ok = true }
 
-  pub byte_listed : (c : ℕ) → c ≢ 0 → {disk a path path-after : List ℕ} → Ready s disk a → KeptOn s.name path c n path-after →
+  pub byte_listed : (c : ℕ) → c ≢ 0 → {disk : Disk} {a path path-after : List ℕ} → Ready s disk a → KeptOn s.name path c n path-after →
       (buffer : List ℕ) (from : ℕ) → ListedOn buffer (c ∷ []) s path from a with_name path-after disk from a
   byte_listed c z h k buffer from =
       record {
@@ -257,7 +258,7 @@ module _ (s : Sweep) (n : ℕ) where
       }
 
 -- STOPPED, and then whatever bytes there were
-pub stopped_listed : (buffer bytes : List ℕ) (s r : Sweep) (path disk : List ℕ) (from : ℕ) (a : List ℕ) → Told → r.ok ≡ false →
+pub stopped_listed : (buffer bytes : List ℕ) (s r : Sweep) (path : List ℕ) (disk : Disk) (from : ℕ) (a : List ℕ) → Told → r.ok ≡ false →
     ListedOn buffer bytes s path from a r path disk from a
 stopped_listed buffer bytes s r path disk from a t e =
     record {
@@ -266,13 +267,13 @@ stopped_listed buffer bytes s r path disk from a t e =
     }
 
 -- NO BYTES, and some behind others
-pub none_listed : (buffer : List ℕ) (s : Sweep) (path disk : List ℕ) (from : ℕ) (a : List ℕ) → Ready s disk a →
+pub none_listed : (buffer : List ℕ) (s : Sweep) (path : List ℕ) (disk : Disk) (from : ℕ) (a : List ℕ) → Ready s disk a →
     ListedOn buffer [] s path from a s path disk from a
 none_listed buffer s path disk from a h =
     record { ready = λ e. h; lists = λ ws list on v. done_when s.ok h.fine (rw (append-nil list) v) }
 
-module _ {buffer xs ys : List ℕ} {s : Sweep} {path : List ℕ} {from : ℕ} {a : List ℕ} {q : Sweep} {path-mid disk-mid : List ℕ} {mid : ℕ} {b : List ℕ}
-    {r : Sweep} {path-after disk-after : List ℕ} {to : ℕ} {c : List ℕ} where
+module _ {buffer xs ys : List ℕ} {s : Sweep} {path : List ℕ} {from : ℕ} {a : List ℕ} {q : Sweep} {path-mid : List ℕ} {disk-mid : Disk} {mid : ℕ} {b : List ℕ}
+    {r : Sweep} {path-after : List ℕ} {disk-after : Disk} {to : ℕ} {c : List ℕ} where
   pub listed_join : ListedOn buffer xs s path from a q path-mid disk-mid mid b → q.ok ≡ true →
       ListedOn buffer ys q path-mid mid b r path-after disk-after to c → ListedOn buffer (xs ++ ys) s path from a r path-after disk-after to c
   listed_join f e g =
@@ -282,7 +283,7 @@ module _ {buffer xs ys : List ℕ} {s : Sweep} {path : List ℕ} {from : ℕ} {a
       }
 
 -- stopped before the last of the bytes
-pub listed_short : {buffer xs : List ℕ} (ys : List ℕ) {s : Sweep} {path : List ℕ} {from : ℕ} {a : List ℕ} {r : Sweep} {path-after disk-after : List ℕ}
+pub listed_short : {buffer xs : List ℕ} (ys : List ℕ) {s : Sweep} {path : List ℕ} {from : ℕ} {a : List ℕ} {r : Sweep} {path-after : List ℕ} {disk-after : Disk}
     {to : ℕ} {b : List ℕ} → r.ok ≡ false →
     ListedOn buffer xs s path from a r path-after disk-after to b → ListedOn buffer (xs ++ ys) s path from a r path-after disk-after to b
 listed_short {xs = xs} ys e f =
@@ -297,25 +298,25 @@ listed_short {xs = xs} ys e f =
 
 -- THE BYTES OF A BLOCK, the first i of n: the sweep has come further by just these, and is to go on
 pub record ListingBytes
-    (buffer block : List ℕ) (n : ℕ) (s : Sweep) (path : List ℕ) (from : ℕ) (a : List ℕ) (r : Sweep) (path-after disk-after : List ℕ) (to : ℕ) (b : List ℕ)
+    (buffer block : List ℕ) (n : ℕ) (s : Sweep) (path : List ℕ) (from : ℕ) (a : List ℕ) (r : Sweep) (path-after : List ℕ) (disk-after : Disk) (to : ℕ) (b : List ℕ)
     (i : ℕ) : Type 0 where
   pub inside : n ≤ length block
   pub so_far : i ≤ n
   pub ready : Ready r disk-after b
   pub listed : ListedOn buffer (take i block) s path from a r path-after disk-after to b
 
-pub bytes_started : (buffer block : List ℕ) (n : ℕ) (s : Sweep) (path disk : List ℕ) (from : ℕ) (a : List ℕ) → Ready s disk a → n ≤ length block →
+pub bytes_started : (buffer block : List ℕ) (n : ℕ) (s : Sweep) (path : List ℕ) (disk : Disk) (from : ℕ) (a : List ℕ) → Ready s disk a → n ≤ length block →
     ListingBytes buffer block n s path from a s path disk from a 0
 bytes_started buffer block n s path disk from a h l =
     record { inside = l; so_far = zero-le; ready = h; listed = none_listed buffer s path disk from a h }
 
 module _
-    {buffer block : List ℕ} {n : ℕ} {s : Sweep} {path : List ℕ} {from : ℕ} {a : List ℕ} {q : Sweep} {path-mid disk-mid : List ℕ} {mid : ℕ} {b : List ℕ} {i : ℕ}
+    {buffer block : List ℕ} {n : ℕ} {s : Sweep} {path : List ℕ} {from : ℕ} {a : List ℕ} {q : Sweep} {path-mid : List ℕ} {disk-mid : Disk} {mid : ℕ} {b : List ℕ} {i : ℕ}
     (v : ListingBytes buffer block n s path from a q path-mid disk-mid mid b i) where
   pub bytes_done : (n ≤ i) → ListedOn buffer (take n block) s path from a q path-mid disk-mid mid b
   bytes_done h = let all : i ≡ n = omega (arith, v.so_far) in rw all at v.listed
 
-  module _ (more : i < n) {r : Sweep} {path-after disk-after : List ℕ} {to : ℕ} {c : List ℕ}
+  module _ (more : i < n) {r : Sweep} {path-after : List ℕ} {disk-after : Disk} {to : ℕ} {c : List ℕ}
       (f : ListedOn buffer (get_or block i 0 ∷ []) q path-mid mid b r path-after disk-after to c) where
     one_more : ListedOn buffer (take (suc i) block) s path from a r path-after disk-after to c
     one_more = rw (take-suc block i 0 (omega (arith, v.inside))) (listed_join v.listed v.ready.fine f)

@@ -1,10 +1,13 @@
 -- RECEIPTS for what the system did with files, as those of crates/streams are for standard input and output: shut names, and makers. Those that ask for
 -- nothing are for the proofs of two functions of src/files.rt that do nothing but call the system: make_asked, make_opened, make_given and make_missed for
 -- `open_path`; make_held, make_over and make_missed for `read_descriptor`. A third, `close_descriptor`, asks for one. Assumes nothing: these are definitions.
-use Rattle.std.specs.Prelude.{◌≡◌, Bool, true, false, cond, List, ℕ, suc, ◌+◌, ◌^◌, ◌≤◌, ◌<◌, ltb, ℤ, pos, negsuc, length, get_or, take}
+use Rattle.std.specs.Prelude.{◌≡◌, Bool, true, false, List, ℕ, suc, ◌+◌, ◌^◌, ◌≤◌, ◌<◌, ℤ, negsuc, Option, Some, None, IsUtf8, length, take}
+use Rattle.std.specs.declared.fs.File.{File}
+use Rattle.std.specs.Fd.{file_raw_fd}
 use Rattle.streams.specs.declared.Got.{Got}
 use Rattle.streams.specs.declared.Got.TheVariants.{Bytes, Failed}
 use Rattle.streams.specs.Receipts.{Answered, Moved}
+use Rattle.sweep.specs.declared.files.Disk.{Disk}
 
 -- opening number k of the run, from 1, is of this path, whatever comes of it
 pub Asked : (k : ℕ) → (path : List ℕ) → Type 0
@@ -23,10 +26,10 @@ unfolding Opened
 make_opened k p = tt
 
 -- it answered this descriptor
-pub Given : (k d : ℕ) → Type 0
+pub Given : (k : ℕ) → (d : ℤ) → Type 0
 Given k d = Unit {0}
 
-pub make_given : (k d : ℕ) → Given k d
+pub make_given : (k : ℕ) (d : ℤ) → Given k d
 unfolding Given
 make_given k d = tt
 
@@ -50,7 +53,7 @@ make_over k n = tt
 abbrev pub longest_path : ℕ
 longest_path = 4095
 
--- the opening, or a read of the file, failed; or its path is too long, and no opening is tried; or 64 bits cannot count its bytes
+-- the opening, or a read of the file, failed; or its path is too long or no UTF-8 text, and no opening is tried; or 64 bits cannot count its bytes
 pub Missed : (k : ℕ) → Type 0
 Missed k = Unit {0}
 
@@ -62,54 +65,61 @@ pub too_long : (k : ℕ) (path : List ℕ) → longest_path < length path → As
 unfolding Asked Missed
 too_long k p h = (tt, tt)
 
+pub no_text : (k : ℕ) (path : List ℕ) → ¬ (IsUtf8 path) → Asked k path × Missed k
+unfolding Asked Missed
+no_text k p h = (tt, tt)
+
 pub too_many : (k came more : ℕ) → 2 ^ 64 ≤ came + more → Missed k
 unfolding Missed
 too_many k n m h = tt
 
--- WHAT AN OPENING ANSWERS: a descriptor, or a number below 0
-pub record PathOpened (k : ℕ) (path : List ℕ) (got : ℤ) : Type 0 where
+-- the descriptor of a file
+abbrev pub descriptor_of : (file : File) → ℤ
+descriptor_of f = file_raw_fd f
+
+-- WHAT AN OPENING ANSWERS: a file, with its descriptor, or none
+pub record PathOpened (k : ℕ) (path : List ℕ) (got : Option File) : Type 0 where
   pub asked : Asked k path
-  pub opens : (d : ℕ) → got ≡ pos d → Opened k path × Given k d
-  pub fails : (j : ℕ) → got ≡ negsuc j → Missed k
+  pub opens : (f : File) → got ≡ Some f → Opened k path × Given k (descriptor_of f)
+  pub fails : got ≡ None → Missed k
 
--- WHAT MAY BE CLOSED: the descriptor that opening k answered, or none
-abbrev pub MayClose : (k : ℕ) → (fd : ℤ) → Type 0
-MayClose k fd = (d : ℕ) → fd ≡ pos d → Given k d
+-- WHAT MAY BE CLOSED: the file whose descriptor opening k answered, or none
+abbrev pub MayClose : (k : ℕ) → (file : Option File) → Type 0
+MayClose k file = (f : File) → file ≡ Some f → Given k (descriptor_of f)
 
--- WHAT A READ of a descriptor ANSWERS, if it is the one that opening k answered, and has not been closed, and `at` bytes of its file had come
-pub record DescriptorRead (k at : ℕ) (fd got : ℤ) (buffer : List ℕ) : Type 0 where
-  pub answered : (d : ℕ) → fd ≡ pos d → Given k d → Answered (Held k) (Over k) at got buffer
-  pub fails : (d : ℕ) → fd ≡ pos d → Given k d → (j : ℕ) → got ≡ negsuc j → Missed k
+-- WHAT A READ of a file ANSWERS, if its descriptor is the one that opening k answered, and `at` of its bytes had come. It has not been closed, since a file is
+-- closed only where it is let go of
+pub record DescriptorRead (k at : ℕ) (file : File) (got : ℤ) (buffer : List ℕ) : Type 0 where
+  pub answered : Given k (descriptor_of file) → Answered (Held k) (Over k) at got buffer
+  pub fails : Given k (descriptor_of file) → (j : ℕ) → got ≡ negsuc j → Missed k
 
--- THE OPEN FILE as it is kept, in three numbers at which only src/files.rt looks: its descriptor, or none; how many openings there were; and
--- how many bytes of the file that was opened last have come
-abbrev pub kept_of : (disk : List ℕ) → ℕ
-kept_of d = get_or d 0 0
+-- THE OPEN FILE as it is kept, with two numbers, at which only src/files.rt looks: the file, or none; how many openings there were; and how many bytes of the
+-- file that was opened last have come
+abbrev pub kept_of : (disk : Disk) → Option File
+kept_of d = d.file
 
-abbrev pub openings : (disk : List ℕ) → ℕ
-openings d = get_or d 1 0
+abbrev pub openings : (disk : Disk) → ℕ
+openings d = d.openings
 
-abbrev pub came_of : (disk : List ℕ) → ℕ
-came_of d = get_or d 2 0
+abbrev pub came_of : (disk : Disk) → ℕ
+came_of d = d.came
 
--- none, which the system neither reads nor closes: it is handed -1
-abbrev pub no_descriptor : ℕ
-no_descriptor = 18446744073709551615
-
-abbrev pub descriptor_of : (kept : ℕ) → ℤ
-descriptor_of n = cond (ltb n 2147483648) (pos n) (negsuc 0)
+-- none
+abbrev pub no_descriptor : Option File
+no_descriptor = None
 
 -- IT HOLDS no descriptor but the one that the last opening answered
-pub record Holds (disk : List ℕ) : Type 0 where
-  pub given : kept_of disk < 2147483648 → Given (openings disk) (kept_of disk)
+pub record Holds (disk : Disk) : Type 0 where
+  pub given : (f : File) → kept_of disk ≡ Some f → Given (openings disk) (descriptor_of f)
 
--- IT IS OPEN: the descriptor kept is the one that the last opening answered
-pub record IsOpen (disk : List ℕ) : Type 0 where
-  pub fits : kept_of disk < 2147483648
-  pub given : Given (openings disk) (kept_of disk)
+-- IT IS OPEN: a file is kept, and its descriptor is the one that the last opening answered
+pub record IsOpen (disk : Disk) : Type 0 where
+  pub file : File
+  pub kept : kept_of disk ≡ Some file
+  pub given : Given (openings disk) (descriptor_of file)
 
 -- OPENING: one more opening, of this path, and nothing of the file has come
-pub record FileOpened (path disk : List ℕ) (opened : Bool) (after : List ℕ) : Type 0 where
+pub record FileOpened (path : List ℕ) (disk : Disk) (opened : Bool) (after : Disk) : Type 0 where
   pub next : openings after ≡ suc (openings disk)
   pub none : came_of after ≡ 0
   pub asked : Asked (openings after) path
@@ -119,12 +129,12 @@ pub record FileOpened (path disk : List ℕ) (opened : Bool) (after : List ℕ) 
   pub shut : opened ≡ false → kept_of after ≡ no_descriptor
 
 -- READING: k bytes came into a buffer, none only where the file ended, if there is room for one
-pub record FileBrought (disk : List ℕ) (k : ℕ) (after buffer : List ℕ) : Type 0 where
+pub record FileBrought (disk : Disk) (k : ℕ) (after : Disk) (buffer : List ℕ) : Type 0 where
   pub within : k ≤ length buffer
   pub came : Moved (Held (openings disk)) (came_of disk) (came_of after) (take k buffer)
   pub ends : k ≡ 0 → 1 ≤ length buffer → Over (openings disk) (came_of after)
 
 -- or the read failed, and none is counted
-abbrev pub FileRead : (disk : List ℕ) → Got → (after buffer : List ℕ) → Type 0
+abbrev pub FileRead : (disk : Disk) → Got → (after : Disk) → (buffer : List ℕ) → Type 0
 FileRead d (Bytes k) e b = (openings e ≡ openings d) × FileBrought d k e b
 FileRead d Failed e b = (openings e ≡ openings d) × (came_of e ≡ came_of d) × Missed (openings d)

@@ -6,6 +6,7 @@ use Rattle.boards.specs.declared.Watch.{Watch}
 use Rattle.boards.specs.Board.{most_codes, accepted, board}
 use Rattle.boards.specs.Feed.{opened}
 use Rattle.boards.specs.Entry.{Lent, room, feed_refusal, feeding}
+use Rattle.sweep.specs.declared.files.Disk.{Disk}
 use Rattle.sweep.specs.declared.look.Part.{Part}
 use Rattle.sweep.specs.declared.look.Look.{Look}
 use Rattle.sweep.specs.Forms.{hit_forms}
@@ -66,7 +67,7 @@ pub record WhyUnread (k : ℕ) (buffer : List ℕ) (x : Watch) (left : List ℕ)
 
 -- A FILE from watch x on, as far as it was read: its bytes, taken, and then those that came and were not
 pub record Looked
-    (buffer : List ℕ) (file : ℕ) (x : Watch) (disk : List ℕ) (from u : ℕ) (a : List ℕ) (r : Look) (disk-after : List ℕ) (to : ℕ) (b : List ℕ) : Type 0 where
+    (buffer : List ℕ) (file : ℕ) (x : Watch) (disk : Disk) (from u : ℕ) (a : List ℕ) (r : Look) (disk-after : Disk) (to : ℕ) (b : List ℕ) : Type 0 where
   pub bytes : List ℕ
   pub left : List ℕ
   pub told : List Hit
@@ -80,7 +81,7 @@ pub record Looked
 
 -- THE FILE OF A PATH, from its opening to its end or to where it could not be read on
 pub record PathLooked
-    (buffer : List ℕ) (file : ℕ) (path disk : List ℕ) (from u : ℕ) (a : List ℕ) (r : Look) (disk-after : List ℕ) (to : ℕ) (b : List ℕ) : Type 0 where
+    (buffer : List ℕ) (file : ℕ) (path : List ℕ) (disk : Disk) (from u : ℕ) (a : List ℕ) (r : Look) (disk-after : Disk) (to : ℕ) (b : List ℕ) : Type 0 where
   pub bytes : List ℕ
   pub left : List ℕ
   pub told : List Hit

@@ -3,6 +3,7 @@ use Rattle.std.specs.Prelude.{◌≡◌, Bool, true, false, List, [], ◌++◌, 
 use Rattle.forms.specs.Text.{refused_form}
 use Rattle.streams.specs.Receipts.{Came, Ended, Sent, Told, Moved, MayFollow}
 use Rattle.streams.specs.Streams.{DoneOrTold, SomeCame}
+use Rattle.sweep.specs.declared.files.Disk.{Disk}
 use Rattle.sweep.specs.declared.list.Sweep.{Sweep}
 use Rattle.sweep.specs.declared.list.Listing.{Listing}
 use Rattle.sweep.specs.Files.{openings}
@@ -14,7 +15,7 @@ use Rattle.sweep.specs.Swept.{Plan, listing, AllNamed, AllRight, sweep_form, Swe
 
 -- THE LIST from where the sweep stood on: more of it came, and it is to be read on; or it has ended; or the sweep was stopped
 pub record Listed
-    (buffer : List ℕ) (s : Sweep) (path : List ℕ) (at from : ℕ) (a : List ℕ) (r : Listing) (path-after disk-after : List ℕ) (after to : ℕ) (b : List ℕ)
+    (buffer : List ℕ) (s : Sweep) (path : List ℕ) (at from : ℕ) (a : List ℕ) (r : Listing) (path-after : List ℕ) (disk-after : Disk) (after to : ℕ) (b : List ℕ)
     : Type 0 where
   pub ready : r.ok ≡ true → Ready r.sweep disk-after b
   pub bytes : List ℕ
@@ -66,7 +67,7 @@ pub record ListStopped (ws : List (List ℕ)) (at after to : ℕ) : Type 0 where
   pub stopped : StoppedAt ws some.bytes after to
 
 -- what `sweep_list` promises, where nothing was sent before
-pub record Sweeps (buffer disk : List ℕ) (at from : ℕ) (complete : Bool) (after to : ℕ) : Type 0 where
+pub record Sweeps (buffer : List ℕ) (disk : Disk) (at from : ℕ) (complete : Bool) (after to : ℕ) : Type 0 where
   pub sweeps :
       (ws : List (List ℕ)) → OnBoard ws buffer → openings disk ≡ 0 → from ≡ 0 →
       DoneOrTold complete (ListSwept ws at after to) (ListStopped ws at after to)

@@ -5,6 +5,7 @@ use Rattle.runs.specs.Reading.{longest_text}
 use Rattle.starts.specs.Hits.{hits}
 use Rattle.streams.specs.Receipts.{Moved}
 use Rattle.streams.specs.Streams.{DoneOrTold, PrefixOf}
+use Rattle.sweep.specs.declared.files.Disk.{Disk}
 use Rattle.sweep.specs.declared.look.Look.{Look}
 use Rattle.sweep.specs.declared.list.Sweep.{Sweep}
 use Rattle.sweep.specs.Forms.{hit_forms, unread_form, total_form}
@@ -114,7 +115,7 @@ pub record Swept (ws : List (List ℕ)) (list : List ℕ) (s : Sweep) (path : Li
 
 -- ONE THAT IS TO GO ON: nothing failed, the bytes gathered and the name are in their buffers, each file passed is an opening, no descriptor is kept but the
 -- last one's, and no more are unread than were passed
-pub record Ready (s : Sweep) (disk out : List ℕ) : Type 0 where
+pub record Ready (s : Sweep) (disk : Disk) (out : List ℕ) : Type 0 where
   pub fine : s.ok ≡ true
   pub inside : s.used ≤ length out
   pub short : s.name ≤ suc longest_path
@@ -149,7 +150,7 @@ pub record Stopped (ws : List (List ℕ)) (list : List ℕ) (sent : ℕ) : Type 
 
 -- MORE BYTES of the list: the sweep has come further by just these, or it was stopped
 pub record ListedOn
-    (buffer bytes : List ℕ) (s : Sweep) (path : List ℕ) (from : ℕ) (a : List ℕ) (r : Sweep) (path-after disk-after : List ℕ) (to : ℕ) (b : List ℕ) : Type 0
+    (buffer bytes : List ℕ) (s : Sweep) (path : List ℕ) (from : ℕ) (a : List ℕ) (r : Sweep) (path-after : List ℕ) (disk-after : Disk) (to : ℕ) (b : List ℕ) : Type 0
   where
     pub ready : r.ok ≡ true → Ready r disk-after b
     pub lists :

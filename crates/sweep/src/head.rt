@@ -8,6 +8,7 @@ ghost use Rattle.sweep.specs.Lines.{next_of, NextRead, CodeRead, Adds, Prepares}
 
 use boards::{MOST_BYTES, MOST_CODES};
 use forms::Line;
+use std::io::Stdin;
 use streams::Got;
 
 // Room for one byte more than the longest code has.
@@ -36,11 +37,11 @@ fn next_of(line: Line) -> Next
 }
 
 // Reads the rest of a code's line, behind its first byte.
-fn read_code(came: &mut u64, first: u8, kept: &mut [u8; KEPT]) -> Next
+fn read_code(input: Stdin, came: &mut u64, first: u8, kept: &mut [u8; KEPT]) -> Next
     ensures { CodeRead first came.old result kept.new came.new }
 {
     let line = forms::line_byte(Line::Opening(0), first, kept);
-    let start = streams::read_line(came, line, kept);
+    let start = streams::read_line(input, came, line, kept);
     if !start.ok {
         return Next::Failed;
     }
@@ -49,11 +50,11 @@ fn read_code(came: &mut u64, first: u8, kept: &mut [u8; KEPT]) -> Next
 }
 
 // Reads the next line of the head. An input that ends before it is not of its form.
-fn read_next(came: &mut u64, kept: &mut [u8; KEPT]) -> Next
+fn read_next(input: Stdin, came: &mut u64, kept: &mut [u8; KEPT]) -> Next
     ensures { NextRead came.old result kept.new came.new }
 {
     let mut one = [0u8; 1];
-    let got = streams::read_some(came, &mut one);
+    let got = streams::read_some(input, came, &mut one);
     match got {
         Got::Bytes(n) => {
             if n == 0 {
@@ -62,7 +63,7 @@ fn read_next(came: &mut u64, kept: &mut [u8; KEPT]) -> Next
             if one[0] == b'\n' {
                 return Next::Empty;
             }
-            read_code(came, one[0], kept)
+            read_code(input, came, one[0], kept)
         }
         Got::Failed => Next::Failed,
     }
@@ -132,7 +133,7 @@ pub struct Head {
 }
 
 // Reads the head, and prepares the board of its codes. Each turn counts bytes that came: so it ends.
-pub fn read_head(came: &mut u64, board: &mut [u8; boards::ROOM]) -> Head
+pub fn read_head(input: Stdin, came: &mut u64, board: &mut [u8; boards::ROOM]) -> Head
     ensures { HeadRead came.old result board.new came.new }
 {
     let mut kept = [0u8; KEPT];
@@ -145,7 +146,7 @@ pub fn read_head(came: &mut u64, board: &mut [u8; boards::ROOM]) -> Head
         long: false,
     };
     loop {
-        let next = read_next(came, &mut kept);
+        let next = read_next(input, came, &mut kept);
         match next {
             Next::Coded(n) => {
                 list = add_code(list, &kept, n, &mut lengths, &mut bytes);

@@ -6,15 +6,18 @@ ghost use Rattle.sweep.specs.Files.{openings, Holds, longest_path};
 ghost use Rattle.sweep.specs.Swept.{Ready, KeptOn, Passed, ListedOn};
 ghost use Rattle.sweep.specs.Program.{Listed, Finished, Sweeps};
 
+use crate::files::{Disk, PATH_MAX};
 use crate::look::{GATHERED, Look, PIECE, SPOTS, look_at};
 use crate::says::{say_total, say_unread, send_gathered};
+use std::io::Stdin;
+use std::rt::HostRuntime;
 use streams::Got;
 
 // The bytes of the list that are read at once, at most.
 const BLOCK: usize = 65536;
 
 // Room for one byte more than the longest path that is opened.
-const NAME: usize = libc::PATH_MAX;
+const NAME: usize = PATH_MAX;
 
 // How far a sweep has come: the bytes of the next path so far, as many as are kept; the files passed, and those of them not read to their end; the bytes
 // searched and the hits; the bytes gathered, and whether nothing failed.
@@ -104,10 +107,11 @@ fn pass_file(s: Sweep, look: Look, out: &mut [u8; GATHERED], sent: &mut u64) -> 
 
 // A path has ended, the first bytes of a buffer: looks at its file.
 fn end_path(
+    rt: &HostRuntime,
     s: Sweep,
     path: &[u8],
     board: &[u8],
-    disk: &mut [u64; 3],
+    disk: &mut Disk,
     piece: &mut [u8; PIECE],
     places: &mut [u32; SPOTS],
     numbers: &mut [u32; SPOTS],
@@ -133,6 +137,7 @@ fn end_path(
         };
     }
     let look = look_at(
+        rt,
         board,
         &path[..n],
         file,
@@ -161,11 +166,12 @@ fn keep_byte(path: &mut [u8], n: usize, byte: u8) -> usize
 
 // One more byte of the list: the path ends, or goes on.
 fn list_byte(
+    rt: &HostRuntime,
     s: Sweep,
     byte: u8,
     path: &mut [u8; NAME],
     board: &[u8],
-    disk: &mut [u64; 3],
+    disk: &mut Disk,
     piece: &mut [u8; PIECE],
     places: &mut [u32; SPOTS],
     numbers: &mut [u32; SPOTS],
@@ -177,7 +183,7 @@ fn list_byte(
         sent.new out.new }
 {
     if byte == 0 {
-        return end_path(s, path, board, disk, piece, places, numbers, out, sent);
+        return end_path(rt, s, path, board, disk, piece, places, numbers, out, sent);
     }
     let n = keep_byte(path, s.name, byte);
     Sweep {
@@ -193,12 +199,13 @@ fn list_byte(
 
 // The first n bytes of a block of the list, until something fails.
 fn list_bytes(
+    rt: &HostRuntime,
     first: Sweep,
     block: &[u8],
     n: usize,
     path: &mut [u8; NAME],
     board: &[u8],
-    disk: &mut [u64; 3],
+    disk: &mut Disk,
     piece: &mut [u8; PIECE],
     places: &mut [u32; SPOTS],
     numbers: &mut [u32; SPOTS],
@@ -213,7 +220,7 @@ fn list_bytes(
     let mut i = 0;
     while i < n {
         s = list_byte(
-            s, block[i], path, board, disk, piece, places, numbers, out, sent,
+            rt, s, block[i], path, board, disk, piece, places, numbers, out, sent,
         );
         if !s.ok {
             return s;
@@ -233,11 +240,13 @@ pub struct Listing {
 
 // Reads a block of the list, and takes its bytes.
 fn list_block(
+    rt: &HostRuntime,
+    input: Stdin,
     s: Sweep,
     block: &mut [u8; BLOCK],
     path: &mut [u8; NAME],
     board: &[u8],
-    disk: &mut [u64; 3],
+    disk: &mut Disk,
     piece: &mut [u8; PIECE],
     places: &mut [u32; SPOTS],
     numbers: &mut [u32; SPOTS],
@@ -250,7 +259,7 @@ fn list_block(
         came.new sent.new out.new
         × Rises result.more came.old came.new }
 {
-    let got = streams::read_some(came, block);
+    let got = streams::read_some(input, came, block);
     match got {
         Got::Bytes(n) => {
             if n == 0 {
@@ -261,7 +270,7 @@ fn list_block(
                 };
             }
             let t = list_bytes(
-                s, block, n, path, board, disk, piece, places, numbers, out, sent,
+                rt, s, block, n, path, board, disk, piece, places, numbers, out, sent,
             );
             Listing {
                 sweep: t,
@@ -279,11 +288,13 @@ fn list_block(
 
 // Reads the list, as long as more of it is to be read. Each turn counts bytes that came: so it ends.
 fn list_through(
+    rt: &HostRuntime,
+    input: Stdin,
     first: Sweep,
     block: &mut [u8; BLOCK],
     path: &mut [u8; NAME],
     board: &[u8],
-    disk: &mut [u64; 3],
+    disk: &mut Disk,
     piece: &mut [u8; PIECE],
     places: &mut [u32; SPOTS],
     numbers: &mut [u32; SPOTS],
@@ -304,7 +315,7 @@ fn list_through(
     while l.more {
         let s = l.sweep;
         l = list_block(
-            s, block, path, board, disk, piece, places, numbers, out, came, sent,
+            rt, input, s, block, path, board, disk, piece, places, numbers, out, came, sent,
         );
     }
     l
@@ -328,8 +339,10 @@ fn finish(s: Sweep, out: &mut [u8; GATHERED], sent: &mut u64) -> bool
 
 // Sweeps the files of the list; whether the sweep is complete.
 pub fn sweep_list(
+    rt: &HostRuntime,
+    input: Stdin,
     board: &[u8; boards::ROOM],
-    disk: &mut [u64; 3],
+    disk: &mut Disk,
     came: &mut u64,
     sent: &mut u64,
 ) -> bool
@@ -352,6 +365,8 @@ pub fn sweep_list(
         ok: true,
     };
     let l = list_through(
+        rt,
+        input,
         first,
         &mut block,
         &mut path,

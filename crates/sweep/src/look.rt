@@ -5,9 +5,10 @@ ghost use Rattle.streams.specs.Streams.{Rises};
 ghost use Rattle.sweep.specs.Files.{openings, came_of, Holds, IsOpen};
 ghost use Rattle.sweep.specs.Looking.{PartTaken, PieceTaken, Looked, PathLooked};
 
-use crate::files::{open_file, read_file};
+use crate::files::{Disk, open_file, read_file};
 use crate::says::say_hits;
 use boards::Watch;
+use std::rt::HostRuntime;
 use streams::Got;
 
 // The bytes that are read at once, at most; the hits that feeding tells at once; and room for what is said of so many hits.
@@ -142,7 +143,7 @@ fn look_on(
     board: &[u8],
     watch: Watch,
     file: u64,
-    disk: &mut [u64; 3],
+    disk: &mut Disk,
     piece: &mut [u8; PIECE],
     places: &mut [u32; SPOTS],
     numbers: &mut [u32; SPOTS],
@@ -186,7 +187,7 @@ fn look_on(
 fn look_through(
     board: &[u8],
     file: u64,
-    disk: &mut [u64; 3],
+    disk: &mut Disk,
     piece: &mut [u8; PIECE],
     places: &mut [u32; SPOTS],
     numbers: &mut [u32; SPOTS],
@@ -219,10 +220,11 @@ fn look_through(
 
 // Looks at the file of a path.
 pub fn look_at(
+    rt: &HostRuntime,
     board: &[u8],
     path: &[u8],
     file: u64,
-    disk: &mut [u64; 3],
+    disk: &mut Disk,
     piece: &mut [u8; PIECE],
     places: &mut [u32; SPOTS],
     numbers: &mut [u32; SPOTS],
@@ -234,7 +236,7 @@ pub fn look_at(
     ensures { PathLooked board.now file path.now disk.old sent.old used out.old result disk.new
         sent.new out.new }
 {
-    if !open_file(disk, path) {
+    if !open_file(rt, disk, path) {
         return Look {
             watch: Watch::open(),
             used: used,

@@ -14,28 +14,35 @@ mod list;
 mod look;
 mod says;
 
+use crate::files::Disk;
 use crate::head::read_head;
 use crate::list::sweep_list;
+use std::io::Stdin;
+use std::rt::HostRuntime;
 
 // The program; whether it is complete.
-fn run(disk: &mut [u64; 3], came: &mut u64, sent: &mut u64) -> bool
+fn run(rt: &HostRuntime, input: Stdin, disk: &mut Disk, came: &mut u64, sent: &mut u64) -> bool
     requires { (openings disk.old ≡ 0) × (came.old ≡ 0) × (sent.old ≡ 0) × (kept_of disk.old ≡ no_descriptor) }
     ensures { Ran result came.new sent.new }
 {
     let mut board = [0u8; boards::ROOM];
-    let head = read_head(came, &mut board);
+    let head = read_head(input, came, &mut board);
     if !head.ok {
         return false;
     }
     if head.refusal != 0 {
         return streams::print_refusal(sent, head.refusal);
     }
-    sweep_list(&board, disk, came, sent)
+    sweep_list(rt, input, &board, disk, came, sent)
 }
 
-fn main() {
-    let mut disk = [files::NONE, 0, 0];
+fn main(rt: HostRuntime) {
+    let mut disk = Disk {
+        file: None,
+        openings: 0,
+        came: 0,
+    };
     let mut came = 0u64;
     let mut sent = 0u64;
-    run(&mut disk, &mut came, &mut sent);
+    run(&rt, rt.stdin(), &mut disk, &mut came, &mut sent);
 }

@@ -1,9 +1,7 @@
 -- `add_up` meets its contract. Assumes nothing.
 use Prim.Native.Nat.{◌-◌, ◌≤◌}
-use native.Mathlib.Omega.{arith}
-use borrow.Author.Rules.{rules}
 use lib.ListN.{length}
-use Rattle.boards.proofs.Listing.{Summing, summing_start, summing_turn, summing_end}
+use Rattle.boards.proofs.Listing.{Summing}
 use Rattle.boards.proofs.add_up.Given as goal
 
 abbrev pub invariant-loop-i : goal.invariant-loop-i

@@ -1,6 +1,5 @@
 -- `is_no_board` meets its contract. Assumes nothing.
 use mathlib.Core.Path.{sym}
-use borrow.Author.Rules.{rules}
 use Rattle.boards.proofs.Listing.{no_codes, many_codes, many_bytes, by_sum}
 use Rattle.boards.proofs.is_no_board.Goals as goal
 
@@ -14,6 +13,4 @@ pub returns-then-bytes-gt-MOST_BYTES : goal.returns-then-bytes-gt-MOST_BYTES
 returns-then-bytes-gt-MOST_BYTES c = sym (many_bytes _ _ c.if-k-eq0.false c.if-k-gt-MOST_CODES.false c.if-bytes-gt-MOST_BYTES.true)
 
 pub returns : goal.returns
-returns c =
-    let e = c in
-    by_sum _ _ e.if-k-eq0.false e.if-k-gt-MOST_CODES.false e.if-bytes-gt-MOST_BYTES.false _ c.add_up.ensures
+returns c = by_sum _ _ c.if-k-eq0.false c.if-k-gt-MOST_CODES.false c.if-bytes-gt-MOST_BYTES.false _ c.add_up.ensures

@@ -1,12 +1,8 @@
 -- `some_empty` meets its contract. Assumes nothing.
-use mathlib.Core.Path.{refl}
-use mathlib.Core.Logic.{⊎_elim}
 use Prim.Native.Nat.{◌-◌, ◌≤◌}
-use native.Mathlib.Omega.{arith}
-use borrow.Author.Tests.{eq-eqb, ne_eqb}
 use lib.ListN.{length}
 use Rattle.words.specs.Words.{member}
-use Rattle.boards.proofs.Listing.{Looked, empty_some, look_found, look_next, look_end}
+use Rattle.boards.proofs.Listing.{Looked}
 use Rattle.boards.proofs.some_empty.Given as goal
 
 abbrev pub invariant-loop-i : goal.invariant-loop-i

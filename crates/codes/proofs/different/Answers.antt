@@ -1,10 +1,9 @@
 -- `different` meets its contract. The loop keeps the table and the number of the different bytes from i on. Assumes nothing.
-use mathlib.Core.Bool.{true, false}
+use mathlib.Core.Path.{refl}
 use Prim.Native.Nat.{◌-◌}
 use native.Mathlib.Omega.{arith}
 use Rattle.codes.proofs.Tally.{tally_start, tally_turn, tally_end}
 use Rattle.codes.proofs.different.Goals as goal
-use Rattle.codes.proofs.different.Goals.{then-not-seen-byte, else-not-seen-byte}
 
 pub loop-i-init : goal.loop-i-init
 loop-i-init c = (omega arith, tally_start c.args.code.now)
@@ -21,12 +20,10 @@ bounds-seen-byte-in-loop-i c = omega (arith, c.type_inv.code (c.loop-i.i - 1))
 pub loop-i-preserved : goal.loop-i-preserved
 loop-i-preserved c =
     let l = c.loop-i in
-    let byte = c.type_inv.code (l.i - 1) in
-    let turn = tally_turn c.args.code.now l.i (l.i - 1) l.n _ l.seen in
-    elim c.if-not-seen-byte.branch [
-      | then-not-seen-byte v ↦ (omega arith, turn false v.if-not-seen-byte.true (omega arith) (omega arith) (omega (arith, byte)) (omega arith) l.invariant.1)
-      | else-not-seen-byte v ↦ (omega arith, turn true v.if-not-seen-byte.false (omega arith) (omega arith) (omega (arith, byte)) (omega arith) l.invariant.1)
-    ]
+    let byte = c.type_inv.code (l.i - 1) in (
+      grind arith,
+      tally_turn c.args.code.now l.i (l.i - 1) l.n _ l.seen _ refl (grind arith) (omega arith) (omega (arith, byte)) (omega arith) l.invariant.1,
+    )
 
 pub returns : goal.returns
 returns c = tally_end c.args.code.now c.loop-i.i _ _ (omega arith) c.loop-i.invariant.1

@@ -1,8 +1,7 @@
 -- `same_front` meets its contract. The loop keeps whether the bytes passed are the same. Assumes nothing.
 use mathlib.Core.Path.{◌≡◌, refl, ◌∙◌}
-use Prim.Native.Nat.{◌+◌, ◌-◌, ◌≤◌, zero-le}
+use Prim.Native.Nat.{◌+◌, zero-le}
 use native.Mathlib.Omega.{arith}
-use lib.ListN.{length, take}
 use borrow.Author.Tests.{le-leb, lt-leb}
 use Rattle.words.specs.Words.{same}
 use Rattle.sheets.proofs.SameFronts.{front_short, front_differs, front_same}

@@ -34,13 +34,14 @@ loop-left-preserved c =
     let less = c.without_top-left.ensures in
     let long = c.long.ensures.0 in
     elim c.if-depth-long.branch [
-      then-depth-long w ↦
+      | then-depth-long w ↦
           rw w.rest-is
           (linking_more k some top c.without_top-left.result w.with_bit-rest.result byte.result tables' less
           (omega (arith, w.if-depth-long.true, long)) w.with_bit-rest.ensures result)
-    | else-depth-long w ↦
+      | else-depth-long w ↦
           rw w.rest-is
-          (linking_last k some top c.without_top-left.result byte.result tables' less (omega (arith, w.if-depth-long.false, long)) result) ]
+          (linking_last k some top c.without_top-left.result byte.result tables' less (omega (arith, w.if-depth-long.false, long)) result)
+    ]
 
 pub returns : goal.returns
 returns c = linking_end c.loop-left.invariant c.loop-left-test.false

@@ -1,6 +1,5 @@
 -- `read_codes` meets its contract. A buffer that begins with a board names at most 64 lengths, and has them. Assumes nothing.
 use native.Mathlib.Omega.{arith}
-use borrow.Author.Rules.{rules}
 use Rattle.boards.proofs.Naming.{begins_within, reads_none, lengths_of, reads_there}
 use Rattle.boards.proofs.named.read_codes.Goals as goal
 
@@ -14,12 +13,7 @@ pub returns-then-board-k : goal.returns-then-board-k
 returns-then-board-k c = reads_none (λ b. omega (arith, (begins_within _ b).1, c.wide-k.ensures.0, c.if-board-k.true))
 
 pub codes_end-requires : goal.codes_end-requires
-codes_end-requires c =
-    let r = c in
-    let e = r in
-    lengths_of e.wide-k.ensures.0 e.if-k-gt-MOST_CODES.false e.if-board-k.false r.read_lengths.ensures
+codes_end-requires c = lengths_of c.wide-k.ensures.0 c.if-k-gt-MOST_CODES.false c.if-board-k.false c.read_lengths.ensures
 
 pub returns : goal.returns
-returns c =
-    let r = c in
-    reads_there r.wide-k.ensures.0 r.read_lengths.ensures c.codes_end.ensures
+returns c = reads_there c.wide-k.ensures.0 c.read_lengths.ensures c.codes_end.ensures

@@ -1,9 +1,6 @@
 -- `read_lengths` meets its contract. Assumes nothing.
 use Prim.Native.Nat.{◌-◌, ◌≤◌}
-use native.Mathlib.Omega.{arith}
-use borrow.Author.Rules.{rules}
 use Rattle.boards.specs.Inside.{LengthsRead}
-use Rattle.boards.proofs.Naming.{lengths_start, lengths_turn, lengths_end}
 use Rattle.boards.proofs.named.read_lengths.Given as goal
 
 abbrev pub invariant-loop-i : goal.invariant-loop-i

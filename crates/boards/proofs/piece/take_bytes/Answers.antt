@@ -1,122 +1,77 @@
 -- `take_bytes` meets its contract. The loop keeps that the bytes taken and the hits written come before what is fed of the rest. Assumes nothing.
-use mathlib.Core.Path.{refl, sym}
-use mathlib.Core.Logic.{⊎_elim}
-use Prim.Native.Nat.{◌-◌}
+use mathlib.Core.Path.{refl}
+use Prim.Native.Nat.{◌+◌, ◌≤◌, min}
 use native.Mathlib.Omega.{arith}
-use borrow.Author.Rules.{rules}
 use lib.ListN.{length}
-use Rattle.boards.specs.Tables.{tree, tables}
 use Rattle.boards.proofs.Prepared.{zeros}
-use Rattle.boards.proofs.Taking.{spots_free, spots_taken, front_lists, TakeLoop, loop_start, loop_bounds, loop_long, answer_done, answer_full}
+use Rattle.boards.proofs.Taking.{loop_start, loop_bounds, answer_done, answer_full}
 use Rattle.boards.proofs.Taking.{turn_advancing, turn_needs, next_bounds, hits_needs, turn_taken}
 use Rattle.boards.proofs.piece.take_bytes.Goals as goal
-
--- the turn in which the next bytes were read
-abbrev turn : goal.After-advance-s invariant-loop decreases-loop → goal.Then-k-count invariant-loop decreases-loop
-turn c = c
+use Rattle.boards.proofs.piece.take_bytes.Goals.{then-i-piece, else-i-piece, then-loop-i-test+else-k-count, else-loop-i-test}
 
 pub put_fronts-depth-requires : goal.put_fronts-depth-requires
-put_fronts-depth-requires c =
-    let start = c in
-    record { good = start.requires.0.good; none = zeros 1024; words_long = refl; starts_long = refl }
+put_fronts-depth-requires c = record { good = c.requires.0.good; none = zeros 1024; words_long = refl; starts_long = refl }
 
 pub loop-i-init : goal.loop-i-init
 loop-i-init c =
-    let s = c in
-    let q = s.requires in
-    let given = s.type_inv.piece in
-    loop_start _ _ (record { boarded = q.0; ready = q.1; fronts = s.put_fronts-depth.ensures; bytes = λ i. (given i).fits })
-
-pub overflow_add-k : goal.overflow_add-k
-overflow_add-k c = let b = loop_bounds c.loop-i.invariant in omega (arith, b.1, b.2, b.4)
-
-pub slice_bounds-advance-end : goal.slice_bounds-advance-end
-slice_bounds-advance-end c = sym c.loop-i.invariant.lists.fronts.put.words_long
-
-pub slice_bounds-advance-end-in-loop-i : goal.slice_bounds-advance-end-in-loop-i
-slice_bounds-advance-end-in-loop-i c = sym c.loop-i.invariant.lists.fronts.put.starts_long
+    loop_start _ _
+    (record { boarded = c.requires.0; ready = c.requires.1; fronts = c.put_fronts-depth.ensures; bytes = λ i. (c.type_inv.piece i).fits })
 
 pub advance-s-requires : goal.advance-s-requires
 advance-s-requires c = turn_needs c.loop-i.invariant c.loop-i-test.true
 
 pub overflow_cast-taken : goal.overflow_cast-taken
 overflow_cast-taken c =
-    let q = c in
-    let v = (turn q).loop-i.invariant in
-    let led = q.advance-s.ensures _ _ (turn_advancing v (turn q).loop-i-test.true) in
-    let b = next_bounds v led in omega (arith, v.lists.ready.few, b.2)
+    let v = c.loop-i.invariant in
+    let led = c.advance-s.ensures _ _ (turn_advancing v c.loop-i-test.true) in
+    omega (arith, v.lists.ready.few, (next_bounds v led).2)
 
 pub overflow_add-taken : goal.overflow_add-taken
 overflow_add-taken c =
-    let q = c in
-    let v = (turn q).loop-i.invariant in
-    let led = q.advance-s.ensures _ _ (turn_advancing v (turn q).loop-i-test.true) in
-    let b = next_bounds v led in omega (arith, v.lists.ready.few, b.2)
+    let v = c.loop-i.invariant in
+    let led = c.advance-s.ensures _ _ (turn_advancing v c.loop-i-test.true) in
+    omega (arith, v.lists.ready.few, (next_bounds v led).2)
 
 pub bounds-nearest-g : goal.bounds-nearest-g
 bounds-nearest-g c =
-    let q = c in
-    let v = (turn q).loop-i.invariant in
-    let led = q.advance-s.ensures _ _ (turn_advancing v (turn q).loop-i-test.true) in
+    let v = c.loop-i.invariant in
+    let led = c.advance-s.ensures _ _ (turn_advancing v c.loop-i-test.true) in
     (next_bounds v led).0
 
 pub write_hits-k-requires : goal.write_hits-k-requires
 write_hits-k-requires c =
-    let q = c in
-    let v = (turn q).loop-i.invariant in
-    let led = q.advance-s.ensures _ _ (turn_advancing v (turn q).loop-i-test.true) in
-    let free = spots_free _ _ _ (turn q).least-room.ensures (turn q).if-k-count.true in
+    let v = c.loop-i.invariant in
+    let led = c.advance-s.ensures _ _ (turn_advancing v c.loop-i-test.true) in
+    let free : c.loop-i.k + length c.args.lengths.now ≤ min (length c.args.places.now) (length c.args.numbers.now) =
+    omega (arith, c.least-room.ensures, c.if-k-count.true) in
     hits_needs v led free _ c.wide.ensures.0
 
 pub loop-i-smaller : goal.loop-i-smaller
 loop-i-smaller c =
-    let q = c in
-    let v = (turn q).loop-i.invariant in
-    let led = q.advance-s.ensures _ _ (turn_advancing v (turn q).loop-i-test.true) in
-    let b = next_bounds v led in
-    omega (arith, b.1, b.2)
+    let v = c.loop-i.invariant in
+    let led = c.advance-s.ensures _ _ (turn_advancing v c.loop-i-test.true) in
+    let b = next_bounds v led in omega (arith, b.1, b.2)
 
 pub loop-i-preserved : goal.loop-i-preserved
 loop-i-preserved c =
-    let w = c in
-    let q = c in
-    let v = (turn q).loop-i.invariant in
-    let led = q.advance-s.ensures _ _ (turn_advancing v (turn q).loop-i-test.true) in
-    let free = spots_free _ _ _ (turn q).least-room.ensures (turn q).if-k-count.true in
-    turn_taken v led free _ w.wide.ensures.0 _ _ _ w.write_hits-k.ensures
+    let v = c.loop-i.invariant in
+    let led = c.advance-s.ensures _ _ (turn_advancing v c.loop-i-test.true) in
+    let free : c.loop-i.k + length c.args.lengths.now ≤ min (length c.args.places.now) (length c.args.numbers.now) =
+    omega (arith, c.least-room.ensures, c.if-k-count.true) in
+    turn_taken v led free _ c.wide.ensures.0 _ _ _ c.write_hits-k.ensures
 
 pub overflow_cast-result : goal.overflow_cast-result
-overflow_cast-result c = let b = loop_bounds c.loop-i.invariant in omega (arith, b.3)
-
-pub overflow_cast-result-2 : goal.overflow_cast-result-2
-overflow_cast-result-2 c = let b = loop_bounds c.loop-i.invariant in omega (arith, b.1)
-
-pub overflow_add-result : goal.overflow_add-result
-overflow_add-result c = let b = loop_bounds c.loop-i.invariant in omega (arith, b.1)
-
-pub overflow_add-result-2 : goal.overflow_add-result-2
-overflow_add-result-2 c = let b = loop_bounds c.loop-i.invariant in omega (arith, b.1, b.2)
-
-pub overflow_cast-result-3 : goal.overflow_cast-result-3
-overflow_cast-result-3 c = let b = loop_bounds c.loop-i.invariant in omega (arith, b.1)
-
-pub shape_of-places : goal.shape_of-places
-shape_of-places c = (loop_long c.loop-i.invariant).0
-
-pub shape_of-numbers : goal.shape_of-numbers
-shape_of-numbers c = (loop_long c.loop-i.invariant).1
+overflow_cast-result c = omega (arith, (loop_bounds c.loop-i.invariant).3)
 
 pub returns : goal.returns
 returns c =
-    let l = c in
-    let e = l.if-i-piece in
-    let t = l.loop-i.invariant in
-    ⊎_elim
-    (λ v.
-    answer_full t e.ending v.1 v.0.taken
-    (⊎_elim
-    (λ u. spots_taken _ _ _ l.least-room.ensures u.1.left)
-    (λ u. absurd (omega (arith, v.0.taken, u.left)))
-    l.loop-i-test.branch))
-    (λ v. answer_done t e.ending v.1 v.0.left)
-    e.branch
+    let v = c.loop-i.invariant in
+    elim c.if-i-piece.branch [
+      | then-i-piece w ↦
+          answer_full v c.if-i-piece.ending w.ending-is w.if-i-piece.true
+          (elim c.loop-i-test.branch [
+            | then-loop-i-test+else-k-count u ↦ omega (arith, c.least-room.ensures, u.if-k-count.false)
+            | else-loop-i-test u ↦ absurd (omega (arith, w.if-i-piece.true, u.loop-i-test.false))
+          ])
+      | else-i-piece w ↦ answer_done v c.if-i-piece.ending w.ending-is w.if-i-piece.false
+    ]

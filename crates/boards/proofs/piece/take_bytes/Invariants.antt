@@ -1,18 +1,14 @@
 -- `take_bytes` meets its contract. The loop keeps that the bytes taken and the hits written come before what is fed of the rest. Assumes nothing.
-use mathlib.Core.Path.{refl, sym}
-use mathlib.Core.Logic.{⊎_elim}
 use Prim.Native.Nat.{◌-◌}
-use native.Mathlib.Omega.{arith}
-use borrow.Author.Rules.{rules}
 use lib.ListN.{length}
 use Rattle.boards.specs.Tables.{tree, tables}
-use Rattle.boards.proofs.Prepared.{zeros}
-use Rattle.boards.proofs.Taking.{spots_free, spots_taken, front_lists, TakeLoop, loop_start, loop_bounds, loop_long, answer_done, answer_full}
-use Rattle.boards.proofs.Taking.{turn_advancing, turn_needs, next_bounds, hits_needs, turn_taken}
+use Rattle.boards.proofs.Taking.{front_lists, TakeLoop}
 use Rattle.boards.proofs.piece.take_bytes.Given as goal
 
 abbrev pub invariant-loop-i : goal.invariant-loop-i
-invariant-loop-i l = TakeLoop l.lengths l.bytes (tree l.next l.forks l.keys l.heads) (tables l.links l.nearest l.shorter) l.watch l.piece (front_lists l.words l.starts l.depth) l.initial.places l.places l.initial.numbers l.numbers l.g l.i l.k
+invariant-loop-i l =
+    TakeLoop l.lengths l.bytes (tree l.next l.forks l.keys l.heads) (tables l.links l.nearest l.shorter) l.watch l.piece
+    (front_lists l.words l.starts l.depth) l.initial.places l.places l.initial.numbers l.numbers l.g l.i l.k
 
 abbrev pub decreases-loop-i : goal.decreases-loop-i
 decreases-loop-i l = length l.piece - l.i

@@ -1,13 +1,12 @@
 -- `write_hits` meets its contract. The loop keeps that some hits are written and the chain of codes from a number on is left. Assumes nothing.
 use Prim.Native.Nat.{◌+◌, ◌-◌}
-use native.Mathlib.Omega.{arith}
-use borrow.Author.Rules.{rules}
 use lib.ListN.{length}
-use Rattle.boards.proofs.Hitting.{HitsLoop, loop_start, loop_long, loop_bounds, loop_turn, loop_end}
+use Rattle.boards.proofs.Hitting.{HitsLoop}
 use Rattle.boards.proofs.piece.write_hits.Given as goal
 
 abbrev pub invariant-loop-number : goal.invariant-loop-number
-invariant-loop-number l = HitsLoop l.lengths l.shorter l.o l.taken l.k l.initial.places l.places l.initial.numbers l.numbers l.at l.number
+invariant-loop-number l =
+    HitsLoop l.lengths l.shorter l.o l.taken l.k l.initial.places l.places l.initial.numbers l.numbers l.at l.number
 
 abbrev pub decreases-loop-number : goal.decreases-loop-number
 decreases-loop-number l = l.k + length l.lengths - l.at

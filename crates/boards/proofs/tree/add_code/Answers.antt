@@ -55,11 +55,12 @@ returns-then-ends-end-ne0 c ws x =
     let went = c.follow-w.ensures ws x.is_tree in
     let ready : Ready ws (part c.args.s c.args.l c.args.bytes.now) (tree c.label_code.new.next c.if-d-l.forks c.if-d-l.keys c.if-d-l.heads) c.if-d-l.end =
     elim c.if-d-l.branch [
-      then-d-l w ↦
+      | then-d-l w ↦
           rw (w.forks-is, w.keys-is, w.heads-is, w.end-is)
           (ready_fork ws _ _ _ _ _ _ x _ labels _ _ went w.wide-c.result _ _ w.if-d-l.true w.wide-c.ensures.0 w.wide-c.ensures.1
           w.with_bit.ensures w.with_bit-then-d-l.ensures)
-    | else-d-l w ↦ rw (w.forks-is, w.keys-is, w.heads-is, w.end-is) (ready_none ws _ _ _ _ _ _ x _ labels _ _ went w.if-d-l.false) ] in
+      | else-d-l w ↦ rw (w.forks-is, w.keys-is, w.heads-is, w.end-is) (ready_none ws _ _ _ _ _ _ x _ labels _ _ went w.if-d-l.false)
+    ] in
     added_old _ _ _ x.ended _ _ ready c.if-ends-end-ne0.true
 
 pub returns : goal.returns
@@ -68,9 +69,10 @@ returns c ws x =
     let went = c.follow-w.ensures ws x.is_tree in
     let ready : Ready ws (part c.args.s c.args.l c.args.bytes.now) (tree c.label_code.new.next c.if-d-l.forks c.if-d-l.keys c.if-d-l.heads) c.if-d-l.end =
     elim c.if-d-l.branch [
-      then-d-l w ↦
+      | then-d-l w ↦
           rw (w.forks-is, w.keys-is, w.heads-is, w.end-is)
           (ready_fork ws _ _ _ _ _ _ x _ labels _ _ went w.wide-c.result _ _ w.if-d-l.true w.wide-c.ensures.0 w.wide-c.ensures.1
           w.with_bit.ensures w.with_bit-then-d-l.ensures)
-    | else-d-l w ↦ rw (w.forks-is, w.keys-is, w.heads-is, w.end-is) (ready_none ws _ _ _ _ _ _ x _ labels _ _ went w.if-d-l.false) ] in
+      | else-d-l w ↦ rw (w.forks-is, w.keys-is, w.heads-is, w.end-is) (ready_none ws _ _ _ _ _ _ x _ labels _ _ went w.if-d-l.false)
+    ] in
     added_new _ _ _ x.ended _ _ ready _ x.number_is c.if-ends-end-ne0.false
