@@ -18,6 +18,6 @@ returns-then-used-gt-MOST_BYTES c = λ ws k. refused_large k c.if-list.false c.i
 pub returns : goal.returns
 returns c =
     λ ws k.
-        rw c.refusal.ensures
-        (prepared_kept k c.if-list.false c.if-list-2.false c.if-count-gt-MOST_CODES.false c.if-used-gt-MOST_BYTES.false (search rules)
-        c.prepare-answer.ensures)
+    rw c.refusal.ensures
+    (prepared_kept k c.if-list.false c.if-list-2.false c.if-count-gt-MOST_CODES.false c.if-used-gt-MOST_BYTES.false (search rules)
+    c.prepare-answer.ensures)
