@@ -1,5 +1,4 @@
 -- `total_ceiling` meets its contract. Assumes nothing.
--- past the refusals the length is a code's
 use mathlib.Core.Path.{◌≡◌, sym, ◌∙◌}
 use Prim.Native.Nat.{ℕ, ◌*◌, ◌≤◌, ◌<◌}
 use native.Mathlib.Omega.{arith}
@@ -10,6 +9,7 @@ use Rattle.codes.specs.Entry.{total_answer}
 use Rattle.codes.proofs.Refusals.{answered_value, answered_refusal, length_bounds}
 use Rattle.codes.proofs.total_ceiling.Goals as goal
 
+-- past the refusals the length is a code's
 none : (c : goal.Else-refusal-ne0) → length_refusal longest_code c.args.m ≡ 0
 none c = sym c.length_refusal-refusal.ensures ∙ c.if-refusal-ne0.false
 
