@@ -10,7 +10,7 @@ pub returns-then-label-byte : goal.returns-then-label-byte
 returns-then-label-byte c =
     let a = c.args in
     let w = a.code.now in
-    rw (add-one, add-one)
+    rw (add-one a.p, add-one a.cost)
     (sym (forward_on a.cost w a.p a.byte (omega arith) (sym (c.label.ensures ∙ label_next w a.p) ∙ c.if-label-byte.true)))
 
 pub returns-then-p-code : goal.returns-then-p-code
