@@ -14,7 +14,7 @@ use Rattle.std.specs.declared.fs.File.{File}
 use Rattle.io.specs.Counts.{clamp_len}
 use Rattle.streams.proofs.Answering.{GotBytes, got_bytes}
 use Rattle.sweep.specs.declared.files.Disk.{Disk}
-use Rattle.sweep.specs.Files.{Asked, Opened, Given, Held, Over, Missed, MayClose, PathOpened, DescriptorRead, longest_path}
+use Rattle.sweep.specs.Files.{Asked, Given, Held, Over, Missed, MayClose, PathOpened, DescriptorRead, longest_path}
 use Rattle.sweep.specs.Files.{kept_of, openings, came_of, no_descriptor, descriptor_of, Holds, IsOpen, FileOpened, FileBrought}
 
 -- WHAT MAY BE CLOSED: nothing, if none is kept; and the file that is open

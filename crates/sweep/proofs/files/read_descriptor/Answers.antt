@@ -1,6 +1,4 @@
 -- `read_descriptor` meets its contract: it makes the receipts. Assumes nothing.
-use mathlib.Core.Path.{refl}
-use native.Mathlib.Omega.{arith}
 use Rattle.streams.proofs.Answering.{answered}
 use Rattle.sweep.specs.Files.{make_held, make_over, make_missed}
 use borrow.Author.Rules.{rules}

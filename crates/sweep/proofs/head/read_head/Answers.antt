@@ -1,6 +1,5 @@
 -- `read_head` meets its contract. By what each line is. Assumes nothing.
 use mathlib.Core.Path.{refl}
-use native.Mathlib.Omega.{arith}
 use borrow.Author.Rules.{rules}
 use Rattle.streams.proofs.Moving.{is_done, is_told}
 use Rattle.sweep.proofs.Heading.{codes_none, codes_more, head_came, head_other, head_stopped, fewer_to_come}

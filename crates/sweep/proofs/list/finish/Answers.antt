@@ -1,5 +1,5 @@
 -- `finish` meets its contract. By whether the list ends within a path, and whether the end could be said. Assumes nothing.
-use borrow.Author.Tests.{not-true, not-false}
+use borrow.Author.Tests.{not-true}
 use Rattle.sweep.proofs.Listing.{finished_unsaid}
 use borrow.Author.Rules.{rules}
 use Rattle.sweep.proofs.list.finish.Goals as goal

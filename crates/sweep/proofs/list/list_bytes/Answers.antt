@@ -1,5 +1,5 @@
 -- `list_bytes` meets its contract: the loop is left before its end only where something failed. Assumes nothing.
-use borrow.Author.Tests.{not-true, not-false}
+use borrow.Author.Tests.{not-true}
 use Rattle.sweep.proofs.Sweeping.{bytes_stopped}
 use Rattle.sweep.proofs.list.list_bytes.Goals as goal
 

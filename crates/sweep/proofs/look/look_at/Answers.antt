@@ -1,6 +1,5 @@
 -- `look_at` meets its contract. By whether the file could be opened. Assumes nothing.
 use Rattle.sweep.proofs.Looks.{path_missed}
-use borrow.Author.Rules.{rules}
 use Rattle.sweep.proofs.look.look_at.Goals as goal
 
 pub returns-then-not-open_file : goal.returns-then-not-open_file
