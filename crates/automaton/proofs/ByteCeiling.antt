@@ -12,7 +12,7 @@ use lib.ListN.{length, get_or, take}
 use lib.Pow.{pow_mono}
 use borrow.Author.Tests.{eq-eqb}
 use Rattle.words.specs.Words.{byte, member, is_border}
-use Rattle.words.proofs.Tests.{by-test, by_le, by-eq, never_both}
+use Rattle.words.proofs.Tests.{by_test, by_le, by_eq, never_both}
 use Rattle.words.proofs.Lists.{member_nil, member_other}
 use Rattle.words.proofs.Ends.{Ends, ends_whole, ends_within, ends_without}
 use Rattle.words.proofs.Borders.{Border, border_is, border_test, overlap_border, overlap_label}
@@ -39,9 +39,9 @@ by_count : {G : Type 0} (w : List ℕ) (p b : ℕ) (s : List ℕ) →
     (count w p (suc b) s ≡ count w p b s → G) → G
 unfolding count
 by_count w p b s new old =
-    by-test (is_border w p b)
+    by_test (is_border w p b)
     (λ t.
-    by-test (member (byte w b) s)
+    by_test (member (byte w b) s)
     (λ m. old (ap length (targets_old w p b s (λ a. m))))
     (λ m. new (border_is w p b t) m (ap length (targets_new w p b s t m))))
     (λ t. old (ap length (targets_old w p b s (λ a. absurd (never_both (border_test w p b a) t)))))
@@ -126,7 +126,7 @@ others (x ∷ xs) s = cond (member x xs || member x s) 0 1 + others xs s
 others_all : (w : List ℕ) → others w [] ≡ different w
 unfolding others different member
 others_all [] = refl
-others_all (x ∷ xs) = by-test (member x xs) (λ t. rw (t, others_all xs)) (λ t. rw (t, others_all xs))
+others_all (x ∷ xs) = by_test (member x xs) (λ t. rw (t, others_all xs)) (λ t. rw (t, others_all xs))
 
 head_fewer : (q r t : Bool) → cond {A = ℕ} (q || (r || t)) 0 1 ≤ cond {A = ℕ} (q || t) 0 1
 head_fewer true r t = omega arith
@@ -144,10 +144,10 @@ others_seen : (w s : List ℕ) (a : ℕ) → member a w ≡ true → member a s 
 unfolding others member
 others_seen [] s a e f = absurd (true≢false (sym e))
 others_seen (x ∷ xs) s a e f =
-    by-test (member a xs)
+    by_test (member a xs)
     (λ g. omega (arith, others_seen xs s a g f, head_fewer (member x xs) (eqb a x) (member x s)))
     (λ g.
-    by-eq x a
+    by_eq x a
     (λ (d : x ≡ a). rw (d, g, f, eq-eqb a a refl) (omega (arith, others_fewer xs s a)))
     (λ (d : x ≢ a). absurd (never_both (sym (member_other a x xs d) ∙ e) g)))
 
@@ -198,7 +198,7 @@ byte_below w p c fits =
 different_few : (w : List ℕ) → different w ≤ length w
 unfolding different
 different_few [] = omega arith
-different_few (x ∷ xs) = by-test (member x xs) (λ t. rw t (omega (arith, different_few xs))) (λ t. rw t (omega (arith, different_few xs)))
+different_few (x ∷ xs) = by_test (member x xs) (λ t. rw t (omega (arith, different_few xs))) (λ t. rw t (omega (arith, different_few xs)))
 
 pub ceiling_length : (w : List ℕ) → byte_ceiling w ≤ length w
 unfolding byte_ceiling

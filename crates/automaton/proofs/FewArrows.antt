@@ -6,7 +6,7 @@ use Prim.Native.Nat.{ℕ, zero, suc, ◌+◌, ◌-◌, ◌≤◌, ◌<◌}
 use native.Mathlib.Omega.{arith}
 use lib.ListN.{length}
 use Rattle.words.specs.Words.{border_of}
-use Rattle.words.proofs.Tests.{by_le, by-eq}
+use Rattle.words.proofs.Tests.{by_le, by_eq}
 use Rattle.words.proofs.Borders.{Border, border_zero, border_lower, border_prev, longest_is}
 use Rattle.automaton.specs.Arrows.{arrows, arrows_below}
 use Rattle.automaton.specs.Preparing.{candidates}
@@ -26,7 +26,7 @@ few_longest w r inside ih zero e =
     let count : labels w (suc r) ≡ suc (arrows w 0) = labels_are w (suc r) (omega arith) inside ∙ ap (λ (n : ℕ). suc (arrows w n)) e in
     let none = arrows_zero w in
     let one = below_one w in
-    by-eq r 0
+    by_eq r 0
     (λ (first : r ≡ 0).
     let same : arrows_below w (suc r) ≡ arrows_below w 1 = ap (λ (n : ℕ). arrows_below w (suc n)) first in
     omega arith)
@@ -48,7 +48,7 @@ few_suc w r inside ih x a =
     let below : x < suc r = a.below in
     by_le β x
     (λ (h : β ≤ x).
-    by-eq β x
+    by_eq β x
     (λ (e : β ≡ x). rw (← e) top)
     (λ (n : β ≢ x). absurd (l.none x (omega arith) (omega arith) a)))
     (λ (h : x < β).
@@ -69,7 +69,7 @@ few_labels w r pos fits = omega (arith, few w r fits 0 (border_zero w r pos), be
 
 pub few_below : (w : List ℕ) (r : ℕ) → r ≤ length w → arrows_below w (suc r) ≤ r
 few_below w r fits =
-    by-eq r 0
+    by_eq r 0
     (λ (e : r ≡ 0). rw e (omega (arith, below_one w)))
     (λ (n : r ≢ 0). omega (arith, few_labels w r (omega arith) fits, below_suc w r, arrows_at_most w r))
 

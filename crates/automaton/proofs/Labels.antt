@@ -9,7 +9,7 @@ use lib.Dec.{eqb}
 use lib.ListN.{length, take}
 use borrow.Author.Tests.{eqb-true, eq-eqb, ne_eqb}
 use Rattle.words.specs.Words.{byte, member, Every}
-use Rattle.words.proofs.Tests.{by-test, by-eq, never_both}
+use Rattle.words.proofs.Tests.{by_test, by_eq, never_both}
 use Rattle.words.proofs.Lists.{member_nil, member_head, member_other, member_append, member_fewer, every_map}
 use Rattle.words.proofs.Ends.{Ends, ends_zero, ends_longer, ends_shorter, ends_label}
 use Rattle.words.proofs.Largest.{Largest, largest_wider}
@@ -90,7 +90,7 @@ module _ (w : List ℕ) (p : ℕ) (ls : List ℕ) where
 
   member_again : (x a : ℕ) (ms : List ℕ) → member a (ls ++ ms) ≡ true → member x (a ∷ (ls ++ ms)) ≡ member x (ls ++ ms)
   unfolding member
-  member_again x a ms e = by-test (eqb a x) (λ t. rw t (sym (rw (eqb-true a x t) at e))) (λ t. rw t)
+  member_again x a ms e = by_test (eqb a x) (λ t. rw t (sym (rw (eqb-true a x t) at e))) (λ t. rw t)
 
   pub targets_unlabelled : (b : ℕ) (ms : List ℕ) → targets_from b w p (ls ++ ms) ≡ unlabelled w ls (targets_from b w p ms)
   targets_unlabelled =
@@ -100,7 +100,7 @@ module _ (w : List ℕ) (p : ℕ) (ls : List ℕ) where
       let us = targets_from b w p (byte w b ∷ ms) in
       let mid : targets_from b w p (byte w b ∷ (ls ++ ms)) ≡ unlabelled w ls us =
       targets_members b w p (byte w b ∷ (ls ++ ms)) (ls ++ (byte w b ∷ ms)) (λ x. sym (member_mid x (byte w b) ms)) ∙ ih in
-      by-test (member (byte w b) ls)
+      by_test (member (byte w b) ls)
       (λ t.
       let both : member (byte w b) (ls ++ ms) ≡ true = member_append (byte w b) ls ms ∙ rw t in
       targets_old w p b (ls ++ ms) (λ c. both)
@@ -129,7 +129,7 @@ labelled_counts w p a =
     (λ ls. rw (labelled_nil w a 0, unlabelled_nil w (a ∷ [])) refl)
     (λ b ls c f ih.
     let us = targets_from b w p (byte w b ∷ ls) in
-    by-eq (byte w b) a
+    by_eq (byte w b) a
     (λ (e : byte w b ≡ a).
     let lacks : Lacks w a us = rw e (seen_lacks w p b a ls) in
     rw (labelled_on w a 0 b us e, lacks_none w a (suc b) us lacks, unlabelled_on w (a ∷ []) b us (rw e (member_head a [])), lacks_all w a us lacks)
@@ -152,7 +152,7 @@ labelled_largest w p a fits =
     (record { bound = omega arith; holds = ends_zero (take p w ++ (a ∷ [])) w; none = λ y lo hi u. absurd (omega arith) }))
     (λ b ls c f ih h m.
     let us = targets_from b w p (byte w b ∷ ls) in
-    by-eq (byte w b) a
+    by_eq (byte w b) a
     (λ (e : byte w b ≡ a).
     rw (labelled_on w a 0 b us e, lacks_none w a (suc b) us (rw e (seen_lacks w p b a ls)))
     (record {

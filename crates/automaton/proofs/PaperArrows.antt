@@ -9,7 +9,7 @@ use lib.ListN.{length, take}
 use lib.Seq.{length-take-le}
 use borrow.Author.Tests.{eq-eqb, ne_eqb}
 use Rattle.words.specs.Words.{byte, member, state_of}
-use Rattle.words.proofs.Tests.{by_le, by-eq, never_both}
+use Rattle.words.proofs.Tests.{by_le, by_eq, never_both}
 use Rattle.words.proofs.Lists.{member_nil, member_other, member_fewer, every_member, every_self, length_snoc}
 use Rattle.words.proofs.Ends.{Ends, ends_start, ends_whole, ends_longer, ends_label, ends_inside, ends_within, ends_without, ends_snoc}
 use Rattle.words.proofs.Largest.{Largest, largest_one, largest_same, largest_wider, state_is}
@@ -29,7 +29,7 @@ back_none w p c =
     (λ ls e k. let at : k + 0 ≡ k = omega arith in rw at (back_nil k w p c))
     (λ b ls a f ih e k.
     let us = targets_from b w p (byte w b ∷ ls) in
-    by-eq (byte w b) c
+    by_eq (byte w b) c
     (λ (q : byte w b ≡ c).
     let found : labelled w c 0 (suc b ∷ us) ≡ suc b = labelled_on w c 0 b us q ∙ lacks_none w c (suc b) us (rw q (seen_lacks w p b c ls)) in
     absurd (omega (arith, found, e)))
@@ -45,7 +45,7 @@ back_some w p c =
     (λ ls q e k. absurd (omega (arith, labelled_nil w c 0, e)))
     (λ b ls a f ih q e k.
     let us = targets_from b w p (byte w b ∷ ls) in
-    by-eq (byte w b) c
+    by_eq (byte w b) c
     (λ (h : byte w b ≡ c).
     let found : labelled w c 0 (suc b ∷ us) ≡ suc b = labelled_on w c 0 b us h ∙ lacks_none w c (suc b) us (rw h (seen_lacks w p b c ls)) in
     ap (λ (s : Step). s.state) (back_on (suc b) us k w p c (label_suc w b ∙ h)) ∙ sym found ∙ e)
@@ -84,7 +84,7 @@ pub step_largest : (w : List ℕ) (p c : ℕ) → p ≤ length w → Largest (Le
 step_largest w p c fits =
     by_le (suc p) (length w)
     (λ (h : p < length w).
-    by-eq (byte w p) c
+    by_eq (byte w p) c
     (λ (e : byte w p ≡ c).
     rw (step_forward w p c h e)
     (record {
@@ -156,7 +156,7 @@ found_by_label w p =
     (λ b ls a f ih t m.
     let us = targets_from b w p (byte w b ∷ ls) in
     let lacks : Lacks w (byte w b) us = seen_lacks w p b (byte w b) ls in
-    by-eq (suc b) t
+    by_eq (suc b) t
     (λ (e : suc b ≡ t).
     rw (← e, label_suc w b) (labelled_on w (byte w b) 0 b us refl ∙ lacks_none w (byte w b) (suc b) us lacks))
     (λ (n : suc b ≢ t).

@@ -9,7 +9,7 @@ use lib.ListN.{length, take}
 use lib.Seq.{take-suc}
 use borrow.Author.Tests.{eq-eqb, ne_eqb}
 use Rattle.words.specs.Words.{byte, border_of}
-use Rattle.words.proofs.Tests.{by_le, by-eq}
+use Rattle.words.proofs.Tests.{by_le, by_eq}
 use Rattle.words.proofs.Lists.{member_nil, member_head, member_other}
 use Rattle.words.proofs.Largest.{largest_one, largest_same}
 use Rattle.words.proofs.Borders.{Border, border_test, border_below, longest_is}
@@ -51,7 +51,7 @@ pub drops_inside : (w : List ℕ) (r t : ℕ) → r < length w → drops w r t �
 unfolding drops
 drops_inside w r t h =
     rw (forward_inside w r h)
-    (by-eq (byte w r) (label w t)
+    (by_eq (byte w r) (label w t)
     (λ e. rw (← e) (member_head (byte w r) [] ∙ sym (eq-eqb (byte w r) (byte w r) refl)))
     (λ n. member_other (label w t) (byte w r) [] n ∙ member_nil (label w t) ∙ sym (ne_eqb (label w t) (byte w r) (λ e. n (sym e)))))
 

@@ -9,7 +9,7 @@ use lib.Dec.{ltb, eqb}
 use lib.ListN.{length, get_or, drop}
 use borrow.Author.Tests.{ltb-true, ltb-false, lt-ltb, le-ltb, eqb-true, eq-eqb, ne_eqb}
 use Rattle.words.specs.Words.{byte, Every}
-use Rattle.words.proofs.Tests.{by-test}
+use Rattle.words.proofs.Tests.{by_test}
 use Rattle.automaton.specs.declared.Step.{Step}
 use Rattle.automaton.specs.declared.Arrow.TheVariants.{Back, Forward, Nothing}
 use Rattle.automaton.specs.Arrows.{label, forward, back_targets, arrows, step, try_forward, try_back, stepped, arrow_number, arrow_target}
@@ -71,7 +71,7 @@ module _ (k : ℕ) (w : List ℕ) (p c : ℕ) where
   pub forward_zero : (p < length w → byte w p ≢ c) → (try_forward k w p c).state ≡ 0
   unfolding try_forward
   forward_zero f =
-      by-test (ltb p (length w))
+      by_test (ltb p (length w))
       (λ t. rw (t, ne_eqb (byte w p) c (f (ltb-true p (length w) t))))
       (λ t. rw t)
 
@@ -80,10 +80,10 @@ module _ (k : ℕ) (w : List ℕ) (p c : ℕ) where
       (p < length w → Q (step 0 (suc k) Nothing)) → (length w ≤ p → Q (step 0 k Nothing)) → Q (try_forward k w p c)
   unfolding try_forward
   forward_cases Q on off end =
-      by-test (ltb p (length w))
+      by_test (ltb p (length w))
       (λ t.
       rw t
-      (by-test (eqb (byte w p) c)
+      (by_test (eqb (byte w p) c)
       (λ e. rw e (on (ltb-true p (length w) t) (eqb-true (byte w p) c e)))
       (λ e. rw e (off (ltb-true p (length w) t)))))
       (λ t. rw t (end (ltb-false p (length w) t)))
@@ -95,7 +95,7 @@ unfolding try_back
 back_cases Q P [] k w p c all back front = let e : k + 0 ≡ k = omega arith in rw e at front
 back_cases Q P (t ∷ ts) k w p c all back front =
     let e : k + suc (length ts) ≡ suc k + length ts = omega arith in
-    by-test (eqb (label w t) c)
+    by_test (eqb (label w t) c)
     (λ f. rw f (back t (suc k) all.0 (omega arith)))
     (λ f. rw f (back_cases Q P ts (suc k) w p c all.1 (λ u j h l. back u j h (omega arith)) (rw e at front)))
 
@@ -134,8 +134,8 @@ arrows_told w p c =
 forward_cost_is : (k : ℕ) (w : List ℕ) (p c : ℕ) → (try_forward k w p c).cost ≡ k + compared c (forward w p)
 unfolding try_forward forward compared
 forward_cost_is k w p c =
-    by-test (ltb p (length w))
-    (λ t. by-test (eqb (byte w p) c) (λ e. rw (t, e) (omega arith)) (λ e. rw (t, e) (omega arith)))
+    by_test (ltb p (length w))
+    (λ t. by_test (eqb (byte w p) c) (λ e. rw (t, e) (omega arith)) (λ e. rw (t, e) (omega arith)))
     (λ t. rw t (omega arith))
 
 back_cost_is : (ts : List ℕ) (k : ℕ) (w : List ℕ) (p c : ℕ) →
@@ -143,7 +143,7 @@ back_cost_is : (ts : List ℕ) (k : ℕ) (w : List ℕ) (p c : ℕ) →
 unfolding try_back compared
 back_cost_is [] k w p c = forward_cost_is k w p c
 back_cost_is (t ∷ ts) k w p c =
-    by-test (eqb (label w t) c)
+    by_test (eqb (label w t) c)
     (λ e. rw e (omega arith))
     (λ e. rw e (omega (arith, back_cost_is ts (suc k) w p c)))
 

@@ -9,7 +9,7 @@ use lib.Dec.{eqb}
 use lib.ListN.{length}
 use borrow.Author.Tests.{lt-ltb, le-ltb, not-true, not-false, eqb-true}
 use Rattle.words.specs.Words.{byte, member, Every, Falling, is_border}
-use Rattle.words.proofs.Tests.{by-test, and_left, and_right}
+use Rattle.words.proofs.Tests.{by_test, and_left, and_right}
 use Rattle.words.proofs.Lists.{member_fewer, every_map}
 use Rattle.words.proofs.Borders.{Border, border_is, border_test}
 use Rattle.automaton.specs.Arrows.{label, targets_from, forward, back_targets}
@@ -33,7 +33,7 @@ module _ (w : List ℕ) (p b : ℕ) (ls : List ℕ) where
 
   pub targets_old : (Border w p b → member (byte w b) ls ≡ true) → targets_from (suc b) w p ls ≡ targets_from b w p ls
   unfolding targets_from
-  targets_old f = by-test (is_border w p b) (λ t. rw (t, f (border_is w p b t))) (λ t. rw t)
+  targets_old f = by_test (is_border w p b) (λ t. rw (t, f (border_is w p b t))) (λ t. rw t)
 
 -- INDUCTION over the borders below a bound
 module _ (w : List ℕ) (p : ℕ) (Q : (b : ℕ) → (seen targets : List ℕ) → Type 0)
@@ -129,7 +129,7 @@ pub targets_down : (k b : ℕ) (w : List ℕ) (p : ℕ) (ls : List ℕ) → b �
     targets_from k w p ls ≡ targets_from b w p ls
 targets_down zero b w p ls l h = let e : 0 ≡ b = omega arith in ap (λ (n : ℕ). targets_from n w p ls) e
 targets_down (suc k) b w p ls l h =
-    by-test (eqb (suc k) b)
+    by_test (eqb (suc k) b)
     (λ t. ap (λ (n : ℕ). targets_from n w p ls) (eqb-true (suc k) b t))
     (λ t.
     let ne = borrow.Author.Tests.eqb-false (suc k) b t in

@@ -9,7 +9,7 @@ use lib.Dec.{eqb}
 use lib.Bits.{bit_and, bit_or, and_step, or_step, and_le_l, and_le_r, or_add_and, and_shr, or_shr}
 use lib.Pow.{pow_pos, pow_mono, pow-lt, high, low, shr-shr, field, mod-mod-pow, shl_exact}
 use borrow.Author.Tests.{eq-eqb, ne_eqb, lt-ltb, le-ltb}
-use Rattle.words.proofs.Tests.{by_le, by-eq, never_both, and_left, and_right}
+use Rattle.words.proofs.Tests.{by_le, by_eq, never_both, and_left, and_right}
 use Rattle.automaton.specs.Ceilings.{log2}
 use Rattle.automaton.specs.Promise.{LogarithmRight}
 use Rattle.automaton.proofs.Logarithm.{logarithm_right}
@@ -76,7 +76,7 @@ below_is : (n : ℕ) (t : ℕ → Bool) → all_below n t ≡ true → (q : ℕ)
 unfolding all_below
 below_is zero t e q h = absurd (omega arith)
 below_is (suc n) t e q h =
-    by-eq q n
+    by_eq q n
     (λ (same : q ≡ n). rw same (and_left (t n) (all_below n t) e))
     (λ (other : q ≢ n). below_is n t (and_right (t n) (all_below n t) e) q (omega arith))
 
@@ -114,7 +114,7 @@ pub holds_bit : (j q : ℕ) → holds (2 ^ j) q ≡ eqb q j
 holds_bit j q =
     by_le j q
     (λ (h : j ≤ q).
-    by-eq q j
+    by_eq q j
     (λ (e : q ≡ j). rw (eq-eqb q j e) (rw e (holds_top (2 ^ j) j (omega arith) (pow-lt (omega arith)))))
     (λ (n : q ≢ j). rw (ne_eqb q j n) (holds_above (2 ^ j) q q (pow-lt (omega arith)) (omega arith))))
     (λ (h : q < j).
@@ -165,7 +165,7 @@ top_is m t some fits e = rw e (top_log2 m some fits)
 
 pub top_unique : (m t u : ℕ) → Top m t → Top m u → t ≡ u
 top_unique m t u a b =
-    by-eq m 0
+    by_eq m 0
     (λ (e : m ≡ 0). a.none e ∙ sym (b.none e))
     (λ (n : m ≢ 0).
     by_le t u

@@ -10,7 +10,7 @@ use lib.Dec.{ltb, eqb}
 use lib.ListN.{length, length-map}
 use borrow.Author.Tests.{eq-eqb, ne_eqb, lt-ltb, le-ltb, eqb-true, eqb-false, ltb-true, ltb-false, not-true, not-false}
 use Rattle.words.specs.Words.{member, Every}
-use Rattle.words.proofs.Tests.{by-test, by_le, never_both, fails, and_left, and_right, and_both}
+use Rattle.words.proofs.Tests.{by_test, by_le, never_both, fails, and_left, and_right, and_both}
 use Rattle.words.proofs.Lists.{every_map, every_append}
 use Rattle.automaton.specs.Costs.{sum}
 use Rattle.runs.specs.Reading.{longest_text}
@@ -45,7 +45,7 @@ module _ {t : Bool} {P : Type 0} (p : (t ≡ false) ↔ P) where
   )
 
   pub decides_fails : Decides t (¬ P)
-  decides_fails = (λ e h. never_both e (p.1 h), λ f. by-test t (λ e. e) (λ e. absurd (f (p.0 e))))
+  decides_fails = (λ e h. never_both e (p.1 h), λ f. by_test t (λ e. e) (λ e. absurd (f (p.0 e))))
 
 pub decides_number : {t : Bool} {P : Type 0} (n k : ℕ) → eqb n k ≡ t → Decides t P → (n ≡ k) ↔ P
 decides_number n k e p = (λ h. p.0 (sym e ∙ eq-eqb n k h), λ h. eqb-true n k (e ∙ p.1 h))

@@ -8,7 +8,7 @@ use native.Mathlib.Omega.{arith}
 use lib.ListN.{length, get_or, set, take, length-set}
 use lib.Seq.{take_all, length-take-le, get_or-set_same, get_or-set_other}
 use borrow.Author.Tests.{not-true, not-false}
-use Rattle.words.proofs.Tests.{by-eq, never_both}
+use Rattle.words.proofs.Tests.{by_eq, never_both}
 use Rattle.words.proofs.Lists.{every_at, length_snoc}
 use Rattle.bits.proofs.Bits.{holds_zero}
 use Rattle.automaton.specs.Costs.{sum}
@@ -136,7 +136,7 @@ module _ (ls bs : List ℕ) (j s : ℕ) (t : TreeLists) (ends starts : List ℕ)
         offset_is = omega (arith, x.offset_is, size, offset_more (cut ls bs) j inside, ap (offset (cut ls bs)) at);
         offsets =
             λ (i : ℕ) (h : i < j + 1).
-            by-eq i j
+            by_eq i j
             (λ (e : i ≡ j). rw e (get_or-set_same starts j s 0 (omega (arith, x.starts_long, good.codes)) ∙ x.offset_is))
             (λ (n : i ≢ j). get_or-set_other starts j i s 0 n ∙ x.offsets i (omega arith));
         once = twice_is ∙ not-true (is_code (take j (cut ls bs)) (part s l bs)) (sym a.new ∙ e);

@@ -10,7 +10,7 @@ use lib.ListN.{length, get_or, set, take, length-set}
 use lib.Seq.{take_all, take-length, get_or-set_same, get_or-set_other}
 use borrow.Author.Tests.{lt-ltb, le-ltb}
 use Rattle.words.specs.Words.{byte, same}
-use Rattle.words.proofs.Tests.{by-test, never_both}
+use Rattle.words.proofs.Tests.{by_test, never_both}
 use Rattle.words.proofs.Lists.{same_eq, eq_same}
 use Rattle.bits.specs.Bits.{holds, WithBit}
 use Rattle.starts.specs.Starts.{is_start, known, total, state, is_code, number}
@@ -108,7 +108,7 @@ module _ (ws : List (List ℕ)) (t : TreeLists) (ends bs : List ℕ) (j s l : �
   end_new : d < l → s + l ≡ state (ws ++ (part s l bs ∷ [])) (part s l bs)
   end_new h =
       let none : known ws (part s l bs) ≡ false =
-      by-test (known ws (part s l bs))
+      by_test (known ws (part s l bs))
       (λ k. absurd (never_both (known_shorter ws (part s l bs) (suc d) (omega (arith, size)) k) (went.stops (omega (arith, size)))))
       (λ k. k) in
       omega (arith, state_new ws (part s l bs) (part s l bs) none (start_test (part s l bs) (part s l bs) (take-length (part s l bs))), size, adding.offset_is)
@@ -143,11 +143,11 @@ unknown_some ws (c ∷ u) n = omega arith
 module _ (ws : List (List ℕ)) (w : List ℕ) (ends : List ℕ) (ended : Ended ws ends) where
   ended_still : (u : List ℕ) → known (ws ++ (w ∷ [])) u ≡ true → get_or ends (state (ws ++ (w ∷ [])) u) 0 ≡ number ws u
   ended_still u k =
-      by-test (known ws u)
+      by_test (known ws u)
       (λ (o : known ws u ≡ true). ap (λ (x : ℕ). get_or ends x 0) (state_kept ws (w ∷ []) u o) ∙ ended.numbers u o)
       (λ (n : known ws u ≡ false).
       let is : is_start u w ≡ true = rw (known_more ws w u, n) at k in
-      let none : is_code ws u ≡ false = by-test (is_code ws u) (λ c. absurd (never_both (code_known ws u c) n)) (λ c. c) in
+      let none : is_code ws u ≡ false = by_test (is_code ws u) (λ c. absurd (never_both (code_known ws u c) n)) (λ c. c) in
       ended.none (state (ws ++ (w ∷ [])) u)
       (λ v o e. absurd (omega (arith, e, state_within ws v o, state_new ws w u n is, unknown_some ws u n)))
       ∙ sym (number_none ws u none))
@@ -158,10 +158,10 @@ module _ (ws : List (List ℕ)) (w : List ℕ) (ends : List ℕ) (ended : Ended 
 
     -- so what stands at the code's state tells whether it is one of them
     is_new : get_or ends end 0 ≡ 0 → is_code ws w ≡ false
-    is_new z = by-test (is_code ws w) (λ c. absurd (omega (arith, z, here, number_code ws w c))) (λ c. c)
+    is_new z = by_test (is_code ws w) (λ c. absurd (omega (arith, z, here, number_code ws w c))) (λ c. c)
 
     is_old : get_or ends end 0 ≢ 0 → is_code ws w ≡ true
-    is_old n = by-test (is_code ws w) (λ c. c) (λ c. absurd (n (here ∙ number_none ws w c)))
+    is_old n = by_test (is_code ws w) (λ c. c) (λ c. absurd (n (here ∙ number_none ws w c)))
 
     ended_more : is_code ws w ≡ false → Ended (ws ++ (w ∷ [])) (set ends end (suc (length ws)))
     ended_more new =
@@ -169,7 +169,7 @@ module _ (ws : List (List ℕ)) (w : List ℕ) (ends : List ℕ) (ended : Ended 
         record {
           numbers =
               λ (u : List ℕ) (k : known (ws ++ (w ∷ [])) u ≡ true).
-              by-test (same w u)
+              by_test (same w u)
               (λ (e : same w u ≡ true).
               let at : w ≡ u = same_eq w u e in
               rw (← at, ← ready.end_is) (get_or-set_same ends end (suc (length ws)) 0 inside ∙ sym (number_new ws w new)))

@@ -11,7 +11,7 @@ use lib.Dec.{ltb}
 use lib.ListN.{length, get_or, drop}
 use lib.Seq.{drop-cons}
 use borrow.Author.Tests.{ltb-true}
-use Rattle.words.proofs.Tests.{by-eq}
+use Rattle.words.proofs.Tests.{by_eq}
 use Rattle.words.proofs.Lists.{length_snoc}
 use Rattle.runs.specs.Reading.{fed_more}
 use Rattle.runs.proofs.Feeds.{more_none, more_more, feed_on}
@@ -220,7 +220,7 @@ module _ {ws : List (List ℕ)} {u : List ℕ} {t : TreeLists} {links words star
   module _ {p : ℕ} (a : At words piece g i p) where
     at_then : {w : List ℕ} {h m : ℕ} → Advanced ws w piece g p h m → Advanced ws w piece g i h m
     at_then b =
-        by-eq i p (λ (e : i ≡ p). rw e b)
+        by_eq i p (λ (e : i ≡ p). rw e b)
         (λ (d : i ≢ p).
         let e = a.moved d in
         rw e (stretch_then v.fronts piece v.bytes (p - i) i p (omega (arith, a.passed.onward)) a.passed (rw e at b)))

@@ -13,7 +13,7 @@ use lib.ListN.{length, get_or, take, set, length-set, length-take}
 use lib.Seq.{get_or-set_same, get_or-set_other, get_or-take}
 use borrow.Author.Tests.{ltb-true, ltb-false, lt-ltb, le-ltb, eqb-true, eq-eqb, ne_eqb}
 use Rattle.words.specs.Words.{Every, byte}
-use Rattle.words.proofs.Tests.{by-test, by_le, by-eq, never_both, fails, and_left, and_right}
+use Rattle.words.proofs.Tests.{by_test, by_le, by_eq, never_both, fails, and_left, and_right}
 use Rattle.words.proofs.Lists.{every_at}
 use Rattle.bits.specs.Bits.{holds, Top, WithBit}
 use Rattle.bits.proofs.Bits.{or_zeros, holds_and, holds_zero, holds_all}
@@ -40,7 +40,7 @@ shortest_next {ls} {depth} {i} v h e is =
     record {
       few = omega (arith, v.few);
       within = λ j (k : j < i + 1) m.
-          by-eq j i
+          by_eq j i
           (λ (same : j ≡ i). let at : get_or ls j 0 ≡ get_or ls i 0 = ap (λ (n : ℕ). get_or ls n 0) same in omega arith)
           (λ (other : j ≢ i). omega (arith, v.within j (omega arith) m));
       some = λ all. omega (arith, v.some all, every_at (λ l. 1 ≤ l) ls i all h);
@@ -52,7 +52,7 @@ shortest_all v l = record { few = v.few; within = λ j (h : j < _). v.within j (
 -- below j + 1 is what is below j, but for j itself
 ltb_other : (q j : ℕ) → q ≢ j → ltb q (j + 1) ≡ ltb q j
 ltb_other q j n =
-    by-test (ltb q j)
+    by_test (ltb q j)
     (λ t. let h = ltb-true q j t in rw t (lt-ltb q (j + 1) (omega arith)))
     (λ t. let h = ltb-false q j t in rw t (le-ltb q (j + 1) (omega arith)))
 
@@ -71,7 +71,7 @@ code_put_next {bs} {q} {j} {s} {a} {b} v k r small few room e u =
       each = λ p c t (h : c < 256).
           let m = 256 * p + c in
           let old = holds (get_or a m 0) t in
-          by-eq m k
+          by_eq m k
           (λ (here : m ≡ k).
           let row : p ≡ q = omega arith in
           let at : get_or bs (s + p) 0 ≡ c = rw row (omega arith) in
@@ -81,7 +81,7 @@ code_put_next {bs} {q} {j} {s} {a} {b} v k r small few room e u =
           (put_here old (eqb t (63 - j))))
           (λ (other : m ≢ k).
           let tests : ltb p q && eqb (get_or bs (s + p) 0) c ≡ ltb p (q + 1) && eqb (get_or bs (s + p) 0) c =
-          by-eq p q
+          by_eq p q
           (λ (row : p ≡ q).
           let byte-other : eqb (get_or bs (s + p) 0) c ≡ false =
           ne_eqb (get_or bs (s + p) 0) c
@@ -173,7 +173,7 @@ module _ {ls bs words starts : List ℕ} {depth j s : ℕ} (v : Putting ls bs de
             let put = eqb (get_or bs (s + q) 0) c in
             p.each q c (63 - r) l
             ∙ ap (λ x. x || (ltb q depth && put) && eqb (63 - r) (63 - j)) (v.each q c r k l m)
-            ∙ by-eq r j
+            ∙ by_eq r j
             (λ (same : r ≡ j).
             let here : byte (code ws r) q ≡ get_or bs (s + q) 0 =
             rw (same, v.offset_is) (code_byte v.good j h q (omega (arith, v.shortest.within j h))) in
@@ -189,7 +189,7 @@ module _ {ls bs words starts : List ℕ} {depth j s : ℕ} (v : Putting ls bs de
             let apart : eqb (63 - r) (63 - j) ≡ false = ne_eqb (63 - r) (63 - j) (λ (d : 63 - r ≡ 63 - j). other (omega (arith, turn_bounds.0))) in
             rw (apart, and-false (ltb q depth && put), ltb_other r j other) (or-false (ltb r j && eqb (byte (code ws r) q) c)));
         offsets = λ r (i : r < j + 1).
-            by-eq r j
+            by_eq r j
             (λ (same : r ≡ j). rw same (get_or-set_same starts j s 0 (omega (arith, v.starts_long, turn_bounds.0)) ∙ v.offset_is))
             (λ (other : r ≢ j). get_or-set_other starts j r s 0 other ∙ v.offsets r (omega arith));
         words_long = p.long ∙ v.words_long;
@@ -217,7 +217,7 @@ filling_next {from} {c} {a} {b} v h =
     record {
       onward = omega (arith, v.onward);
       done = λ i r l (m : i < c + 1) n.
-          by-eq i c
+          by_eq i c
           (λ (same : i ≡ c). rw (same, get_or-set_same b c x 0 h) (holds_all r n))
           (λ (other : i ≢ c). rw (get_or-set_other b c i x 0 other) (v.done i r l (omega arith) n));
       before = λ i (l : i < from). get_or-set_other b c i x 0 (λ (e : i ≡ c). absurd (omega (arith, v.onward))) ∙ v.before i l;
@@ -396,7 +396,7 @@ passed_one {from = from} {i} v k e h n =
       onward = omega (arith, v.onward);
       inside = omega arith;
       none = λ q (l : from ≤ q) (m : q < k).
-          by-eq q i
+          by_eq q i
           (λ (same : q ≡ i). rw same (h, n))
           (λ (other : q ≢ i). v.none q l (omega arith));
     }

@@ -8,7 +8,7 @@ use native.Mathlib.Omega.{arith}
 use lib.Dec.{leb}
 use lib.ListN.{length, get_or}
 use borrow.Author.Tests.{le-leb, lt-leb, eqb-true, ne_eqb}
-use Rattle.words.proofs.Tests.{by-test, never_both, fails}
+use Rattle.words.proofs.Tests.{by_test, never_both, fails}
 use Rattle.starts.specs.Starts.{total, state, start, is_state}
 use Rattle.starts.proofs.States.{state_nil, start_nil, start_known, state_is_state}
 use Rattle.boards.specs.declared.Watch.{Watch}
@@ -53,7 +53,7 @@ module _ (ws : List (List ℕ)) (links : List ℕ) (n : ℕ) (l : LinkedFor ws l
 
   -- so where a number is, there is a state
   pub state_at : (d : ℕ) → d ≡ get_or links (2 * g + 1) 0 → d ≢ 0 → is_state ws g ≡ true
-  state_at d at some = by-test (is_state ws g) (λ e. e) (λ e. absurd (some (at ∙ size_none e)))
+  state_at d at some = by_test (is_state ws g) (λ e. e) (λ e. absurd (some (at ∙ size_none e)))
 
   -- THE TESTS, each after those before it passed
   module _ (x : Watch) (is : g ≡ x.state) where

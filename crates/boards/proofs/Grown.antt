@@ -10,7 +10,7 @@ use lib.ListN.{length, get_or, set, take, length-set, length-append}
 use lib.Seq.{take-suc, take_all, take-take, length-take-le, get_or-set_same, get_or-set_other}
 use borrow.Author.Tests.{eqb-true, eq-eqb, ne_eqb, ltb-true, lt-ltb}
 use Rattle.words.specs.Words.{byte}
-use Rattle.words.proofs.Tests.{by-test, by_le, by-eq, never_both, and_left, and_right}
+use Rattle.words.proofs.Tests.{by_test, by_le, by_eq, never_both, and_left, and_right}
 use Rattle.words.proofs.Lists.{length_snoc}
 use Rattle.bits.specs.Bits.{holds, WithBit}
 use Rattle.bits.proofs.Bits.{holds_zero}
@@ -39,7 +39,7 @@ pub record BitMore (xs ys : List ℕ) (at j : ℕ) (put : Bool) : Type 0 where
   pub long : length ys ≡ length xs
 
 no_bit : (xs : List ℕ) (j : ℕ) → ((x q : ℕ) → holds (get_or xs x 0) q ≡ true → q < j) → (x : ℕ) → holds (get_or xs x 0) j ≡ false
-no_bit xs j few x = by-test (holds (get_or xs x 0) j) (λ t. absurd (omega (arith, few x j t))) (λ t. t)
+no_bit xs j few x = by_test (holds (get_or xs x 0) j) (λ t. absurd (omega (arith, few x j t))) (λ t. t)
 
 module _ (xs : List ℕ) (at j : ℕ) (few : (x q : ℕ) → holds (get_or xs x 0) q ≡ true → q < j) where
   pub bit_none : BitMore xs xs at j false
@@ -51,12 +51,12 @@ module _ (xs : List ℕ) (at j : ℕ) (few : (x q : ℕ) → holds (get_or xs x 
       record {
         old =
             λ (x q : ℕ) (n : q ≢ j).
-            by-eq x at
+            by_eq x at
             (λ (e : x ≡ at). rw (e, get_or-set_same xs at m 0 inside, w.each q, ne_eqb q j n, or-false) refl)
             (λ (d : x ≢ at). rw (get_or-set_other xs at x m 0 d) refl);
         new =
             λ (x : ℕ).
-            by-eq x at
+            by_eq x at
             (λ (e : x ≡ at).
             rw (e, get_or-set_same xs at m 0 inside, w.each j, no_bit xs j few at, eq-eqb j j refl, eq-eqb at at refl, lt-ltb j 64 room) refl)
             (λ (d : x ≢ at). rw (get_or-set_other xs at x m 0 d, no_bit xs j few x, ne_eqb x at d) refl);
@@ -106,7 +106,7 @@ module _ (ws : List (List ℕ)) (w : List ℕ) (t t' : TreeLists) (g d : ℕ) (i
       absurd (never_both (rw same at (known_shorter ws u (suc d) h k)) (went.stops (omega (arith, start_fits u w is)))))
 
   still_new : (u : List ℕ) (c : ℕ) → known ws u ≡ false → known ws (u ++ (c ∷ [])) ≡ false
-  still_new u c n = by-test (known ws (u ++ (c ∷ []))) (λ k. absurd (never_both (known_front ws u c k) n)) (λ k. k)
+  still_new u c n = by_test (known ws (u ++ (c ∷ []))) (λ k. absurd (never_both (known_front ws u c k) n)) (λ k. k)
 
   kept : (u : List ℕ) (x : ℕ) → (known ws u ≡ true) × (state ws u ≡ x) → (known more u ≡ true) × (state more u ≡ x)
   kept u x k = (known_kept ws (w ∷ []) u k.0, state_kept ws (w ∷ []) u k.0 ∙ k.1)
@@ -139,7 +139,7 @@ module _ (ws : List (List ℕ)) (w : List ℕ) (t t' : TreeLists) (g d : ℕ) (i
   follows_more : (u : List ℕ) (c : ℕ) → known more u ≡ true → c < 256 → get_or t'.next (state more u) 0 ≡ c →
       (known more (u ++ (c ∷ [])) ≡ true) × (state more (u ++ (c ∷ [])) ≡ suc (state more u))
   follows_more u c k h e =
-      by-test (known ws u)
+      by_test (known ws u)
       (λ o. rw (state_kept ws (w ∷ []) u o) (kept (u ++ (c ∷ [])) (suc (state ws u)) (is_tree.follows u c o h (sym (next_old u o) ∙ e))))
       (λ n. follows_new u n (new_start u k n) c h e)
 
@@ -190,7 +190,7 @@ module _ (ws : List (List ℕ)) (w : List ℕ) (t t' : TreeLists) (g d : ℕ) (i
   branches_old : (u : List ℕ) (c q : ℕ) → known ws u ≡ true → branches_off t' (state ws u) c q ≡ true →
       (known more (u ++ (c ∷ [])) ≡ true) × (state more (u ++ (c ∷ [])) ≡ get_or t'.heads q 0)
   branches_old u c q o b =
-      by-eq q (length ws)
+      by_eq q (length ws)
       (λ (e : q ≡ length ws).
       let f = off_new (state ws u) c (rw e at b) in
       let same : take d w ≡ u = state_one ws (take d w) u went.known_is o (sym went.state_is ∙ sym f.0) in
@@ -202,7 +202,7 @@ module _ (ws : List (List ℕ)) (w : List ℕ) (t t' : TreeLists) (g d : ℕ) (i
   branches_more : (u : List ℕ) (c q : ℕ) → known more u ≡ true → branches_off t' (state more u) c q ≡ true →
       (known more (u ++ (c ∷ [])) ≡ true) × (state more (u ++ (c ∷ [])) ≡ get_or t'.heads q 0)
   branches_more u c q k b =
-      by-test (known ws u)
+      by_test (known ws u)
       (λ o. branches_old u c q o (rw (state_kept ws (w ∷ []) u o) at b))
       (λ n. absurd (never_both b (off_none u c q n (new_start u k n))))
 
@@ -213,7 +213,7 @@ module _ (ws : List (List ℕ)) (w : List ℕ) (t t' : TreeLists) (g d : ℕ) (i
     unknown o =
         is_tree.no_other u c o (λ e. not-next (next_old u o ∙ e))
         (λ q.
-        by-eq q (length ws)
+        by_eq q (length ws)
         (λ e. rw e (off_before (state ws u) c))
         (λ n. sym (off_old (state ws u) c q n) ∙ rw (state_kept ws (w ∷ []) u o) at (not-off q)))
 
@@ -234,8 +234,8 @@ module _ (ws : List (List ℕ)) (w : List ℕ) (t t' : TreeLists) (g d : ℕ) (i
   no_other_more : (u : List ℕ) (c : ℕ) → known more u ≡ true → get_or t'.next (state more u) 0 ≢ c →
       ((q : ℕ) → branches_off t' (state more u) c q ≡ false) → known more (u ++ (c ∷ [])) ≡ false
   no_other_more u c k n f =
-      by-test (known more (u ++ (c ∷ [])))
-      (λ m. absurd (by-test (known ws u) (other_old u c n f m) (other_new u c n f m)))
+      by_test (known more (u ++ (c ∷ [])))
+      (λ m. absurd (by_test (known ws u) (other_old u c n f m) (other_new u c n f m)))
       (λ m. m)
 
   -- THE TREE of one code more
@@ -245,7 +245,7 @@ module _ (ws : List (List ℕ)) (w : List ℕ) (t t' : TreeLists) (g d : ℕ) (i
   bits_few : (xs ys : List ℕ) (at : ℕ) (put : Bool) → ((x q : ℕ) → holds (get_or xs x 0) q ≡ true → q < length ws) → BitMore xs ys at (length ws) put →
       (x q : ℕ) → holds (get_or ys x 0) q ≡ true → q < length more
   bits_few xs ys at put old bits x q h =
-      by-eq q (length ws)
+      by_eq q (length ws)
       (λ (e : q ≡ length ws). omega (arith, codes_more))
       (λ (n : q ≢ length ws). omega (arith, codes_more, old x q (sym (bits.old x q n) ∙ h)))
 

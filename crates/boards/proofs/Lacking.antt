@@ -6,7 +6,7 @@ use Prim.Native.Nat.{ℕ, zero, suc, ◌+◌, ◌<◌}
 use native.Mathlib.Omega.{arith}
 use lib.ListN.{length}
 use Rattle.words.specs.Words.{same}
-use Rattle.words.proofs.Tests.{by-test, or_none}
+use Rattle.words.proofs.Tests.{by_test, or_none}
 use Rattle.words.proofs.Lists.{same_refl, same_eq}
 use Rattle.starts.specs.Starts.{code, is_code, index, number, twice}
 use Rattle.starts.proofs.Codes.{index_here, index_later, is_code_at, code_has, number_code, none_same, is_code_append, number_behind, once_append}
@@ -21,26 +21,26 @@ lacking_all (v ∷ vs) = ap (λ (l : List (List ℕ)). v ∷ l) (lacking_all vs)
 pub lacking_append : (ws xs ys : List (List ℕ)) → lacking ws (xs ++ ys) ≡ lacking ws xs ++ lacking ws ys
 unfolding lacking
 lacking_append ws [] ys = refl
-lacking_append ws (x ∷ xs) ys = by-test (is_code ws x) (λ t. rw t (lacking_append ws xs ys)) (λ t. rw (t, lacking_append ws xs ys))
+lacking_append ws (x ∷ xs) ys = by_test (is_code ws x) (λ t. rw t (lacking_append ws xs ys)) (λ t. rw (t, lacking_append ws xs ys))
 
 -- WHICH CODES are lacked: those of the second list that are none of the first; none of them stands twice where none does in the second
 pub lacking_is : (ws vs : List (List ℕ)) (u : List ℕ) → is_code (lacking ws vs) u ≡ not (is_code ws u) && is_code vs u
 unfolding lacking is_code
 lacking_is ws [] u = sym (and-false (not (is_code ws u)))
 lacking_is ws (v ∷ vs) u =
-    by-test (same v u)
+    by_test (same v u)
     (λ s.
-    by-test (is_code ws v)
+    by_test (is_code ws v)
     (λ t. let had : is_code ws u ≡ true = rw (same_eq v u s) at t in rw (t, lacking_is ws vs u, had) refl)
     (λ t. let new : is_code ws u ≡ false = rw (same_eq v u s) at t in rw (t, s, new) refl))
-    (λ s. by-test (is_code ws v) (λ t. rw (t, s) (lacking_is ws vs u)) (λ t. rw (t, s) (lacking_is ws vs u)))
+    (λ s. by_test (is_code ws v) (λ t. rw (t, s) (lacking_is ws vs u)) (λ t. rw (t, s) (lacking_is ws vs u)))
 
 lacking_once : (ws vs : List (List ℕ)) → twice vs ≡ false → twice (lacking ws vs) ≡ false
 unfolding lacking twice
 lacking_once ws [] e = refl
 lacking_once ws (v ∷ vs) e =
     let once = or_none (is_code vs v) (twice vs) e in
-    by-test (is_code ws v)
+    by_test (is_code ws v)
     (λ t. rw t (lacking_once ws vs once.1))
     (λ t. rw (t, lacking_is ws vs v, t, once.0) (lacking_once ws vs once.1))
 
@@ -58,14 +58,14 @@ lacking_order ws (v ∷ vs) (suc i) (suc j) e l h n =
     let less = lacking_order ws vs i j once.1 (omega arith) (omega arith) n in
     let later-i = index_later v (code vs i) (lacking ws vs) (none_same vs v i once.0 (omega arith)) in
     let later-j = index_later v (code vs j) (lacking ws vs) (none_same vs v j once.0 (omega arith)) in
-    by-test (is_code ws v) (λ t. rw t less) (λ t. rw t (omega (arith, less, later-i, later-j)))
+    by_test (is_code ws v) (λ t. rw t less) (λ t. rw t (omega (arith, less, later-i, later-j)))
 
 -- THE CODES JOINED are those of either list; none stands twice; and what all codes of both have, each of them has
 module _ (ws vs : List (List ℕ)) where
   pub joined_is : (u : List ℕ) → is_code (joined ws vs) u ≡ is_code ws u || is_code vs u
   unfolding joined
   joined_is u =
-      rw (is_code_append ws (lacking ws vs) u, lacking_is ws vs u) (by-test (is_code ws u) (λ t. rw t refl) (λ t. rw t refl))
+      rw (is_code_append ws (lacking ws vs) u, lacking_is ws vs u) (by_test (is_code ws u) (λ t. rw t refl) (λ t. rw t refl))
 
   pub joined_once : twice ws ≡ false → twice vs ≡ false → twice (joined ws vs) ≡ false
   unfolding joined
@@ -76,7 +76,7 @@ module _ (ws vs : List (List ℕ)) where
   joined_each P f g j h =
       let u : List ℕ = code (joined ws vs) j in
       let either : is_code ws u || is_code vs u ≡ true = sym (joined_is u) ∙ is_code_at (joined ws vs) j h in
-      by-test (is_code ws u) (code_has P ws f u) (λ t. code_has P vs g u (rw t at either))
+      by_test (is_code ws u) (code_has P ws f u) (λ t. code_has P vs g u (rw t at either))
 
   -- those of the second that the first lacks are counted on, in their order
   joined_number : (u : List ℕ) → is_code ws u ≡ false → is_code vs u ≡ true → number (joined ws vs) u ≡ suc (length ws + index (lacking ws vs) u)

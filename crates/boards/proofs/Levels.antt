@@ -10,7 +10,7 @@ use lib.Dec.{ltb, eqb}
 use lib.ListN.{length, get_or, set, take, replicate, length-set, length-take, length-replicate, get_or-replicate}
 use lib.Seq.{take-suc, length-take-le, get_or-set_same, get_or-set_other}
 use borrow.Author.Tests.{ltb-true, lt-ltb, le-ltb, eq-eqb, ne_eqb}
-use Rattle.words.proofs.Tests.{by-test, by_le, by-eq, never_both, and_left, and_right, and_both}
+use Rattle.words.proofs.Tests.{by_test, by_le, by_eq, never_both, and_left, and_right, and_both}
 use Rattle.words.proofs.Lists.{every_at}
 use Rattle.bits.specs.Bits.{holds, Top, WithBit, WithoutTop}
 use Rattle.bits.proofs.Bits.{holds_zero, zero_bits}
@@ -214,7 +214,7 @@ module _ {ls bs starts : List ℕ} {t : TreeLists} {k₀ k : LinkLists} {at₀ a
 
   number_small : get_or k.nearest (suc s) 0 ≤ 64
   number_small =
-      by-eq (state ws v) (suc s)
+      by_eq (state ws v) (suc s)
       (λ e. omega (arith, own_number e, number_few ws v, p.is_tree.codes_few))
       (λ n.
       let none =
@@ -249,7 +249,7 @@ module _ {ls bs starts : List ℕ} {t : TreeLists} {k₀ k : LinkLists} {at₀ a
   rests_turn : (left' rest' : ℕ) → Taken left left' j → ((q : ℕ) → holds rest' q ≡ holds rest q || (eqb q j && ltb (suc d) (length (code ws j)))) →
       (q : ℕ) → holds rest' q ≡ not (holds left' q) && (ltb q (length ws) && ltb (suc d) (length (code ws q)))
   rests_turn left' rest' x r q =
-      by-eq q j
+      by_eq q j
       (λ (e : q ≡ j).
       rw (e, r j, p.rests j, is_left, x.gone, eq-eqb j j refl, lt-ltb j (length ws) below) refl)
       (λ (n : q ≢ j). rw (r q, ne_eqb q j n, x.others q n, or-false) (p.rests q))
@@ -274,11 +274,11 @@ module _ {ls bs starts : List ℕ} {t : TreeLists} {k₀ k : LinkLists} {at₀ a
         linked =
             λ u e f n.
             let w = first_known ws u f in
-            by-eq (state ws u) (suc s) (put.own u w)
+            by_eq (state ws u) (suc s) (put.own u w)
             (λ other.
             put.kept u w other
             (p.linked u e f
-            (by-eq f.at j
+            (by_eq f.at j
             (λ i. absurd (other (f.state_is ∙ ap (λ (i : ℕ). offset ws i + length u) i ∙ omega (arith, place_is))))
             (λ i. sym (x.others f.at i) ∙ n))));
         unlinked =
@@ -291,18 +291,18 @@ module _ {ls bs starts : List ℕ} {t : TreeLists} {k₀ k : LinkLists} {at₀ a
         blank = put.blank;
         held =
             λ q h.
-            by-eq q j
+            by_eq q j
             (λ (e : q ≡ j). absurd (never_both (rw e at h) x.gone))
             (λ (n : q ≢ j). p.held q (sym (x.others q n) ∙ h));
         rests = rests_turn left' rest' x rest-is;
         before =
             λ q h.
-            by-eq q j
+            by_eq q j
             (λ (e : q ≡ j). absurd (never_both (rw e at h) x.gone))
             (λ (n : q ≢ j). get_or-set_other at j q r 0 n ∙ p.before q (sym (x.others q n) ∙ h));
         behind =
             λ q h l m.
-            by-eq q j
+            by_eq q j
             (λ (e : q ≡ j). rw e (get_or-set_same at j r 0 (omega (arith, linking_number.1, p.at_long)) ∙ r-is))
             (λ (n : q ≢ j). get_or-set_other at j q r 0 n ∙ p.behind q h l (sym (x.others q n) ∙ m));
         at_long = omega (arith, length-set at j r, p.at_long);
@@ -391,7 +391,7 @@ module _ {ls bs starts : List ℕ} {t : TreeLists} {k₀ k : LinkLists} {at : Li
       by_le 2000 d
       (λ (h : 2000 ≤ d).
       absurd (some (zero_bits live p.fits (λ q l.
-      by-test (holds live q)
+      by_test (holds live q)
       (λ e.
       let is = live_is p.on.leveling q e in
       absurd (omega (arith, is.1, offset_fits (cut ls bs) q is.0, p.on.is_tree.few)))

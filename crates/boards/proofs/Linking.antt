@@ -8,7 +8,7 @@ use native.Mathlib.Omega.{arith}
 use lib.Dec.{ltb}
 use lib.ListN.{length, get_or, set}
 use borrow.Author.Tests.{lt-ltb, le-ltb, eq-eqb, ne_eqb}
-use Rattle.words.proofs.Tests.{by-test, by_le, by-eq}
+use Rattle.words.proofs.Tests.{by_test, by_le, by_eq}
 use Rattle.words.proofs.Lists.{length_snoc}
 use Rattle.bits.specs.Bits.{WithBit}
 use Rattle.bits.proofs.Bits.{holds_zero}
@@ -24,7 +24,7 @@ first_bits_none q = holds_zero q ∙ sym (le-ltb q 0 (omega arith))
 pub first_bits_more : (j m r : ℕ) → j < 64 → FirstBits j m → WithBit m j r → FirstBits (j + 1) r
 first_bits_more j m r h f w q =
     rw (w.each q, f q, lt-ltb j 64 h)
-    (by-eq q j
+    (by_eq q j
     (λ (e : q ≡ j). rw (eq-eqb q j e, or-true (ltb q j)) (sym (lt-ltb q (j + 1) (omega arith))))
     (λ (e : q ≢ j).
     rw (ne_eqb q j e, or-false (ltb q j))
@@ -56,12 +56,12 @@ module _ (ws : List (List ℕ)) (u : List ℕ) (c : ℕ) where
 
   child_none : child_of ws u c ≡ 0 → known ws (u ++ (c ∷ [])) ≡ false
   child_none e =
-      by-test (known ws (u ++ (c ∷ [])))
+      by_test (known ws (u ++ (c ∷ [])))
       (λ k. absurd (omega (arith, e, child_is k, state_some ws (u ++ (c ∷ [])) k, length_snoc u c)))
       (λ k. k)
 
   child_some : child_of ws u c ≢ 0 → known ws (u ++ (c ∷ [])) ≡ true
-  child_some n = by-test (known ws (u ++ (c ∷ []))) (λ k. k) (λ k. absurd (n (child_unknown k)))
+  child_some n = by_test (known ws (u ++ (c ∷ []))) (λ k. k) (λ k. absurd (n (child_unknown k)))
 
 -- STATES: how many there are at most, and that of a start that has bytes
 pub state_few : {ws : List (List ℕ)} {t : TreeLists} {g : ℕ} (u : List ℕ) → Tree ws t → known ws u ≡ true → state ws u ≡ g → g ≤ 2000

@@ -8,7 +8,7 @@ use native.Mathlib.Omega.{arith}
 use lib.ListN.{length, get_or, set, length-set}
 use lib.Seq.{get_or-set_same, get_or-set_other}
 use borrow.Author.Tests.{eq-eqb, ne_eqb}
-use Rattle.words.proofs.Tests.{by-test, by-eq}
+use Rattle.words.proofs.Tests.{by_test, by_eq}
 use Rattle.starts.specs.Starts.{code, known, total, state, start, fallback, is_code, index, number, nearest, shorter}
 use Rattle.starts.proofs.States.{state_within, start_state}
 use Rattle.starts.proofs.Codes.{code_index, number_code, number_none, number_few}
@@ -55,11 +55,11 @@ module _ (k : LinkLists) (g f d : ℕ) where
       record {
         links = ap length put_links ∙ length-set (set k.links (2 * g) f) (2 * g + 1) d ∙ length-set k.links (2 * g) f;
         nearest =
-            by-eq (get_or k.nearest g 0) 0
+            by_eq (get_or k.nearest g 0) 0
             (λ e. ap length (put_nearest_none e) ∙ length-set k.nearest g (get_or k.nearest f 0))
             (λ n. ap length (put_nearest_own n));
         shorter =
-            by-eq (get_or k.nearest g 0) 0
+            by_eq (get_or k.nearest g 0) 0
             (λ e. ap length (put_shorter_none e))
             (λ n. ap length (put_shorter_own n) ∙ length-set k.shorter (get_or k.nearest g 0 - 1) (get_or k.nearest f 0));
       }
@@ -80,7 +80,7 @@ module _ (k : LinkLists) (g f d : ℕ) where
 
     put_nearest_other : get_or (put_state k g f d).nearest h 0 ≡ get_or k.nearest h 0
     put_nearest_other =
-        by-eq (get_or k.nearest g 0) 0
+        by_eq (get_or k.nearest g 0) 0
         (λ e. ap (λ (l : List ℕ). get_or l h 0) (put_nearest_none e) ∙ get_or-set_other k.nearest g h (get_or k.nearest f 0) 0 other)
         (λ n. ap (λ (l : List ℕ). get_or l h 0) (put_nearest_own n))
 
@@ -99,9 +99,9 @@ module _ (k : LinkLists) (g f d : ℕ) where
 -- two codes with one number are one
 number_tells : (ws : List (List ℕ)) (u v : List ℕ) (i : ℕ) → number ws u ≡ suc i → number ws v ≡ suc i → u ≡ v
 number_tells ws u v i a b =
-    by-test (is_code ws u)
+    by_test (is_code ws u)
     (λ p.
-    by-test (is_code ws v)
+    by_test (is_code ws v)
     (λ q.
     let same : index ws u ≡ index ws v = omega (arith, number_code ws u p, number_code ws v q) in
     sym (code_index ws u p) ∙ ap (code ws) same ∙ code_index ws v q)
@@ -119,7 +119,7 @@ module _ (ws : List (List ℕ)) (k : LinkLists) (v : List ℕ) (few : total ws �
 
   put_near : get_or put.nearest (state ws v) 0 ≡ nearest ws v
   put_near =
-      by-test (is_code ws v)
+      by_test (is_code ws v)
       (λ e.
       let some : get_or k.nearest (state ws v) 0 ≢ 0 = λ z. omega (arith, free, number_code ws v e) in
       ap (λ (l : List ℕ). get_or l (state ws v) 0) (put_nearest_own k (state ws v) (state ws (fallback ws v)) (length v) some)
@@ -153,7 +153,7 @@ module _ (ws : List (List ℕ)) (k : LinkLists) (v : List ℕ) (few : total ws �
   put_short_other : (u : List ℕ) → known ws u ≡ true → state ws u ≢ state ws v → (j : ℕ) → number ws u ≡ suc j →
       get_or put.shorter j 0 ≡ get_or k.shorter j 0
   put_short_other u p other j e =
-      by-eq (get_or k.nearest (state ws v) 0) 0
+      by_eq (get_or k.nearest (state ws v) 0) 0
       (λ z. ap (λ (l : List ℕ). get_or l j 0) (put_shorter_none k (state ws v) (state ws (fallback ws v)) (length v) z))
       (λ n.
       let else : j ≢ get_or k.nearest (state ws v) 0 - 1 =
@@ -210,7 +210,7 @@ module _ (ws : List (List ℕ)) (k : LinkLists) (v : List ℕ) (s : ℕ) where
   put_byte_is few codes_few blank is_Known here free back =
       let is-v : (u : List ℕ) → known ws u ≡ true → state ws u ≡ suc s → u ≡ v =
       λ u p e. sym (start_state ws u p) ∙ ap (start ws) e ∙ here in
-      by-eq (state ws v) (suc s)
+      by_eq (state ws v) (suc s)
       (λ (e : state ws v ≡ suc s).
       let unset : get_or k.nearest (state ws v) 0 ≡ number ws v = rw e (free e) in
       rw (put_byte_own e)

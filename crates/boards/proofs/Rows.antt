@@ -7,7 +7,7 @@ use native.Mathlib.Omega.{arith}
 use lib.ListN.{length, get_or, take, set, length-append, length-map}
 use lib.Seq.{get_or-take, length-take-le, ext_get_or}
 use borrow.Author.Tests.{eqb-true}
-use Rattle.words.proofs.Tests.{by-test, never_both}
+use Rattle.words.proofs.Tests.{by_test, never_both}
 use Rattle.automaton.specs.Costs.{sum}
 use Rattle.starts.specs.Starts.{code, total, state, start, is_state, twice, shorter}
 use Rattle.starts.proofs.States.{start_known, state_is_state}
@@ -46,7 +46,7 @@ module _ {ws : List (List ℕ)} {k : LinkLists} (l : AllLinked ws k) where
   row_of : (g : ℕ) → g ≤ total ws → sheet.number 2 (get_or k.links (2 * g) 0) ++ (get_or k.nearest g 0 ∷ []) ≡ row ws g
   unfolding row
   row_of g h =
-      let e = by-test (is_state ws g) (of_state g h) (of_none g) in
+      let e = by_test (is_state ws g) (of_state g h) (of_none g) in
       rw (e.0, e.1)
 
   rows_of : (n : ℕ) → n ≤ suc (total ws) → rows_in k.links k.nearest n ≡ rows_below ws n

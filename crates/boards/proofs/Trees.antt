@@ -8,7 +8,7 @@ use native.Mathlib.Omega.{arith}
 use lib.Bits.{bit_and}
 use lib.ListN.{length, get_or, set, take, length-set}
 use lib.Seq.{take-suc, get_or-set_same, get_or-set_other}
-use Rattle.words.proofs.Tests.{by-test, by_le, by-eq}
+use Rattle.words.proofs.Tests.{by_test, by_le, by_eq}
 use Rattle.words.proofs.Lists.{length_snoc}
 use Rattle.bits.specs.Bits.{holds, Top}
 use Rattle.bits.proofs.Bits.{holds_and, holds_zero}
@@ -36,14 +36,14 @@ child_none ws u c k = rw k
 -- so 0 tells that there is none, and any other number is its state
 pub child_zero : (ws : List (List ℕ)) (u : List ℕ) (c : ℕ) → child_of ws u c ≡ 0 → known ws (u ++ (c ∷ [])) ≡ false
 child_zero ws u c e =
-    by-test (known ws (u ++ (c ∷ [])))
+    by_test (known ws (u ++ (c ∷ [])))
     (λ k. absurd (omega (arith, e, child_known ws u c k, state_some ws (u ++ (c ∷ [])) k, length_snoc u c)))
     (λ k. k)
 
 pub child_some : (ws : List (List ℕ)) (u : List ℕ) (c : ℕ) → child_of ws u c ≢ 0 →
     (known ws (u ++ (c ∷ [])) ≡ true) × (child_of ws u c ≡ state ws (u ++ (c ∷ [])))
 child_some ws u c n =
-    by-test (known ws (u ++ (c ∷ [])))
+    by_test (known ws (u ++ (c ∷ [])))
     (λ k. (k, child_known ws u c k))
     (λ k. absurd (n (child_none ws u c k)))
 
@@ -77,7 +77,7 @@ labels_more s i bs a b some inside x =
     record {
       inner =
           λ (k : ℕ) (h : 1 ≤ k) (l : k < i + 1).
-          by-eq k i
+          by_eq k i
           (λ (e : k ≡ i). rw e (get_or-set_same b (s + i) (get_or bs (s + i) 0) 0 inside))
           (λ (n : k ≢ i). get_or-set_other b (s + i) (s + k) (get_or bs (s + i) 0) 0 (λ (e : s + k ≡ s + i). n (omega arith)) ∙ x.inner k h (omega arith));
       before =

@@ -9,7 +9,7 @@ use lib.ListN.{length, get_or, drop, drop_of_length-le}
 use lib.Seq.{drop-cons}
 use borrow.Author.Tests.{lt-ltb, le-ltb, ltb-false}
 use Rattle.words.specs.Words.{Every}
-use Rattle.words.proofs.Tests.{by-test, never_both}
+use Rattle.words.proofs.Tests.{by_test, never_both}
 use Rattle.codes.specs.Codes.{has_control}
 
 -- A CODE WITHOUT one has no byte below 32
@@ -17,7 +17,7 @@ pub clean_bytes : (w : List ℕ) → has_control w ≡ false → Every (λ v. 32
 unfolding has_control
 clean_bytes [] e = tt
 clean_bytes (v ∷ vs) e =
-    by-test (ltb v 32)
+    by_test (ltb v 32)
     (λ t. absurd (never_both {t = ltb v 32 || has_control vs} (rw t refl) e))
     (λ t. (ltb-false v 32 t, clean_bytes vs (rw t at e)))
 

@@ -10,7 +10,7 @@ use lib.Dec.{ltb, eqb, eqb-suc-zero}
 use lib.ListN.{length}
 use borrow.Author.Tests.{eq-eqb, ne_eqb, lt-ltb, le-ltb, eqb-true, eqb-false, ltb-false}
 use Rattle.words.specs.Words.{Every}
-use Rattle.words.proofs.Tests.{by-test}
+use Rattle.words.proofs.Tests.{by_test}
 use Rattle.automaton.specs.Ceilings.{total_ceiling}
 use Rattle.codes.specs.declared.Answer.TheVariants.{Value, Refused}
 use Rattle.codes.specs.Refusals.{refused_if, first_refusal, answered, answer_refusal}
@@ -119,7 +119,7 @@ pub accepted_within : (w : List ℕ) → 1 ≤ length w → length w ≤ longest
 unfolding accepted
 accepted_within w some few =
     let none = length_good longest_code (length w) (λ z. omega arith) few in
-    by-test (has_control w)
+    by_test (has_control w)
     (λ t. rw (t, code_control w none t) refl)
     (λ t. rw (t, code_good w none t) refl)
 

@@ -8,7 +8,7 @@ use lib.ListN.{length, get_or, set, drop, replicate, length-set, length-replicat
 use lib.Seq.{drop-cons, get_or-set_same, get_or-set_other}
 use Rattle.words.specs.Words.{member}
 use Rattle.words.proofs.Lists.{member_nil, member_head, member_other}
-use Rattle.words.proofs.Tests.{by-eq}
+use Rattle.words.proofs.Tests.{by_eq}
 use Rattle.automaton.specs.Ceilings.{different}
 
 -- a table of the bytes that a list has, and how many they are
@@ -33,7 +33,7 @@ tally_more x xs n seen fits k = record {
   count = rw (k.told x fits, k.count) (omega arith);
   room = length-set seen x true ∙ k.room;
   told = λ v l.
-      by-eq v x
+      by_eq v x
       (λ e. rw e (get_or-set_same seen x true false (omega arith) ∙ sym (member_head x xs)))
       (λ e. get_or-set_other seen x v true false e ∙ k.told v l ∙ sym (member_other v x xs (λ s. e (sym s))));
 }

@@ -7,7 +7,7 @@ use native.Mathlib.Omega.{arith}
 use borrow.Author.Tests.{not-false}
 use lib.ListN.{length, drop}
 use Rattle.words.specs.Words.{in_front}
-use Rattle.words.proofs.Tests.{by-test, never_both}
+use Rattle.words.proofs.Tests.{by_test, never_both}
 use Rattle.runs.specs.declared.Ending.TheVariants.{PieceDone}
 use Rattle.runs.specs.Reading.{Fed, fed, ending, ending_refusal, ending_full}
 use Rattle.runs.proofs.Feeds.{feed_end, takes_some, told_room, ending_none, ending_done, full_says, done_says}
@@ -50,7 +50,7 @@ module _ (x : Watch) (l : Lent) (bs : List ℕ) where
   four_not_sheet : number ≡ 4 → begins bs ≡ false
   unfolding EndingsTold
   four_not_sheet e =
-      by-test (begins bs)
+      by_test (begins bs)
       (λ b. absurd (never_4 bs x (length l.piece) (length l.list) b (sym (endings_told bs x l).0 ∙ e)))
       (λ b. b)
 
@@ -65,7 +65,7 @@ sheets_told x l = (
     λ e w rest good is. never_both (rw is (sheet_begins w rest good)) (four_not_sheet x l bs e),
     λ f.
         not_sheet_four x l bs
-        (by-test (begins bs)
+        (by_test (begins bs)
         (λ b. absurd (f (named bs) (drop (length (sheet (named bs))) bs) (begins_accepted bs b) (begins_front bs b)))
         (λ b. b)),
   ),

@@ -21,7 +21,7 @@ use Rattle.codes.specs.Codes.{longest_code}
 use Rattle.finder.specs.declared.Watch.{Watch}
 use Rattle.finder.specs.Feed.{completed, reported, with_byte, feeder, feed}
 use Rattle.finder.specs.Promise.{BytesPassed}
-use Rattle.finder.specs.Inside.{Passed, further, Goes_on, Leads}
+use Rattle.finder.specs.Inside.{Passed, further, GoesOn, Leads}
 use Rattle.finder.proofs.Places.{completed_none}
 use Rattle.finder.proofs.Passing.{passed_as}
 
@@ -32,11 +32,11 @@ step_cheap w p c fits few = omega (arith, byte_below w p c fits, ceiling_length 
 
 module _ (w piece : List ℕ) where
   -- FEEDING GOES ON: behind no byte, and behind some after others
-  pub goes_none : (i k : ℕ) (x y : Watch) → x ≡ y → Goes_on w piece i i k [] x y
+  pub goes_none : (i k : ℕ) (x y : Watch) → x ≡ y → GoesOn w piece i i k [] x y
   goes_none i k x y e = let z : i - i ≡ 0 = omega arith in record { is = rw (z, more_none, sub-zero k, e) refl }
 
-  pub goes_more : {i j l k : ℕ} {ps qs : List ℕ} {x y z : Watch} → i ≤ j → j ≤ l → Goes_on w piece i j k ps x y →
-      Goes_on w piece j l (k - length ps) qs y z → Goes_on w piece i l k (ps ++ qs) x z
+  pub goes_more : {i j l k : ℕ} {ps qs : List ℕ} {x y z : Watch} → i ≤ j → j ≤ l → GoesOn w piece i j k ps x y →
+      GoesOn w piece j l (k - length ps) qs y z → GoesOn w piece i l k (ps ++ qs) x z
   goes_more {i} {j} {l} {k} {ps} {qs} {x} {y} {z} h g a b =
       let all : j - i + (l - j) ≡ l - i = omega arith in
       let left : k - length ps - length qs ≡ k - length (ps ++ qs) = omega (arith, length-append ps qs) in
@@ -108,7 +108,7 @@ module _ (w piece : List ℕ) where
               let ps : List ℕ = completed (length w) r (x.taken + (l - i)) in
               let hits : x.hits + 0 + length ps ≡ x.hits + length ps = omega arith in
               let cost : x.compares + c + d ≡ x.compares + (c + d) = omega arith in
-              let rest : Goes_on w piece j l (k - 0) ps y (further x r (l - i) (length ps) (c + d)) =
+              let rest : GoesOn w piece j l (k - 0) ps y (further x r (l - i) (length ps) (c + d)) =
               rw (sub-zero k) (rw (at, hits, cost) at (b.feeds y refl k h)) in
               goes_more on more (rw none at (a.feeds x e k h)) rest;
         }

@@ -3,7 +3,7 @@ use mathlib.Core.Path.{◌≡◌}
 use mathlib.Core.Logic.{◌≢◌}
 use Prim.Native.Nat.{ℕ, ◌+◌, ◌≤◌, ◌<◌}
 use native.Mathlib.Omega.{arith}
-use Rattle.words.proofs.Tests.{by-eq, by_le}
+use Rattle.words.proofs.Tests.{by_eq, by_le}
 use Rattle.finder.specs.Inside.{Passed, Reaches}
 
 pub passed_none : {P : ℕ → Type 0} (from : ℕ) → Passed P from from
@@ -15,7 +15,7 @@ module _ {P : ℕ → Type 0} {from i : ℕ} (p : Passed P from i) where
   passed_next k e h =
       record {
         on = omega (arith, p.on);
-        all = λ j lo hi. by-eq j i (λ (f : j ≡ i). rw f h) (λ (f : j ≢ i). p.all j lo (omega arith));
+        all = λ j lo hi. by_eq j i (λ (f : j ≡ i). rw f h) (λ (f : j ≢ i). p.all j lo (omega arith));
       }
 
   pub passed_on : {j : ℕ} → Passed P i j → Passed P from j

@@ -8,7 +8,7 @@ use borrow.Author.Tests.{eq-eqb, ne_eqb, lt-ltb, le-ltb, ltb-false, eqb-false, n
 use native.Mathlib.Omega.{arith}
 use lib.Dec.{ltb, eqb}
 use lib.ListN.{length}
-use Rattle.words.proofs.Tests.{by-test, by-eq, by_le}
+use Rattle.words.proofs.Tests.{by_test, by_eq, by_le}
 use Rattle.runs.specs.Reading.{longest_text}
 use Rattle.codes.specs.Refusals.{refused_if, first_refusal}
 use Rattle.codes.proofs.Refusals.{none_of, not_refused}
@@ -47,9 +47,9 @@ module _ (bs : List ℕ) (x : Watch) (l k : ℕ) where
 
     pub never_4 : feed_refusal bs x l k ≢ 4
     never_4 e =
-        by-test (fit (length (named bs)) x)
+        by_test (fit (length (named bs)) x)
         (λ f.
-        by-eq k 0
+        by_eq k 0
         (λ (z : k ≡ 0). omega (arith, refuses_6 f z, e))
         (λ (n : k ≢ 0).
         by_le (x.taken + l) longest_text

@@ -19,7 +19,7 @@ use Rattle.automaton.proofs.Counts.{below_suc, target_at}
 use Rattle.automaton.proofs.Steps.{step_one, step_not_one, forward_past}
 use Rattle.finder.specs.declared.Watch.{Watch}
 use Rattle.finder.specs.Feed.{completed}
-use Rattle.finder.specs.Inside.{Passed, Here, target_of, further, Goes_on, Leads, Written, in_a_row, Repeating, Repeated, Turned}
+use Rattle.finder.specs.Inside.{Passed, Here, target_of, further, GoesOn, Leads, Written, in_a_row, Repeating, Repeated, Turned}
 use Rattle.finder.proofs.Places.{completed_one, completed_none}
 use Rattle.finder.proofs.Passing.{passed_none, passed_next, stopped_found, stopped_end}
 use Rattle.finder.proofs.Leading.{goes_none, goes_more, leads_byte}
@@ -107,7 +107,7 @@ module _ (w piece : List ℕ) (own : back_targets w (length w) ≡ length w ∷ 
   -- n bytes that lead to m again, and their places
   pub goes_row : (x : Watch) → x.state ≡ m → m ≤ x.taken → (i room n : ℕ) → n ≤ room → i + n ≤ length piece →
       ((j : ℕ) → i ≤ j → j < i + n → get_or piece j 0 ≡ label w m) →
-      Goes_on w piece i (i + n) room (in_a_row (x.taken - m + 1) n) x (further x m n n n)
+      GoesOn w piece i (i + n) room (in_a_row (x.taken - m + 1) n) x (further x m n n n)
   unfolding in_a_row
   goes_row x e t i room zero r h all =
       rw (add-zero i) (goes_none w piece i room x (further x m 0 0 0) (rw (add-zero x.taken, add-zero x.hits, add-zero x.compares, ← e) refl))
@@ -121,7 +121,7 @@ module _ (w piece : List ℕ) (own : back_targets w (length w) ≡ length w ∷ 
       let hits : x.hits + n + 1 ≡ x.hits + suc n = omega arith in
       let cost : x.compares + n + 1 ≡ x.compares + suc n = omega arith in
       let at : i + suc n ≡ i + n + 1 = omega arith in
-      let next : Goes_on w piece (i + n) (i + n + 1) (room - n) ((a + n) ∷ []) y (further x m (suc n) (suc n) (suc n)) =
+      let next : GoesOn w piece (i + n) (i + n + 1) (room - n) ((a + n) ∷ []) y (further x m (suc n) (suc n) (suc n)) =
       rw (one, told, taken, hits, cost) at
       ((again (i + n) (omega arith) (all (i + n) (omega arith) (omega arith))).feeds y refl (room - n) (omega arith)) in
       rw at
@@ -139,7 +139,7 @@ module _ (w piece : List ℕ) (own : back_targets w (length w) ≡ length w ∷ 
     size = length_row (last + 1) n
 
     row : (x : Watch) → x.state ≡ m → x.taken ≡ before + i →
-        Goes_on w piece i (i + n) (length ps - k) (in_a_row (last + 1) n) x (further x m n n n)
+        GoesOn w piece i (i + n) (length ps - k) (in_a_row (last + 1) n) x (further x m n n n)
     row x e t =
         let a : last + 1 ≡ x.taken - m + 1 = omega (arith, t, last-is) in
         rw a
@@ -177,7 +177,7 @@ module _ (w piece : List ℕ) (own : back_targets w (length w) ≡ length w ∷ 
         }
       where
         left : (x : Watch) → x.state ≡ m → x.taken ≡ before + i →
-            Goes_on w piece i (i + n + 1) (length ps - k) (in_a_row (last + 1) n) x (further x 0 (n + 1) n (n + 1))
+            GoesOn w piece i (i + n + 1) (length ps - k) (in_a_row (last + 1) n) x (further x 0 (n + 1) n (n + 1))
         left x e t =
             let y : Watch = further x m n n n in
             let one : i + n + 1 - (i + n) ≡ 1 = omega arith in
@@ -185,10 +185,10 @@ module _ (w piece : List ℕ) (own : back_targets w (length w) ≡ length w ∷ 
             let at : x.taken + n + 1 ≡ x.taken + (n + 1) = omega arith in
             let hits : x.hits + n + 0 ≡ x.hits + n = omega arith in
             let cost : x.compares + n + 1 ≡ x.compares + (n + 1) = omega arith in
-            let next : Goes_on w piece (i + n) (i + n + 1) (length ps - k - n) [] y (further x 0 (n + 1) n (n + 1)) =
+            let next : GoesOn w piece (i + n) (i + n + 1) (length ps - k - n) [] y (further x 0 (n + 1) n (n + 1)) =
             rw (one, none, at, hits, cost) at
             ((leaves (i + n) (omega (arith, bytes)) (r.stopped.found (omega arith))).feeds y refl (length ps - k - n) (omega (arith, room))) in
-            let all : Goes_on w piece i (i + n + 1) (length ps - k) (in_a_row (last + 1) n ++ []) x (further x 0 (n + 1) n (n + 1)) =
+            let all : GoesOn w piece i (i + n + 1) (length ps - k) (in_a_row (last + 1) n ++ []) x (further x 0 (n + 1) n (n + 1)) =
             goes_more w piece (omega arith) (omega arith) (row x e t) (rw size next) in
             rw append-nil at all
 

@@ -72,7 +72,7 @@ further x q n h c = record { state = q; taken = x.taken + n; hits = x.hits + h; 
 
 -- feeding goes on behind the bytes from index i to index j as if begun there, after what they told: from watch x with so much room, from watch y with what
 -- is left of it
-pub record Goes_on (w piece : List ℕ) (i j room : ℕ) (told : List ℕ) (x y : Watch) : Type 0 where
+pub record GoesOn (w piece : List ℕ) (i j room : ℕ) (told : List ℕ) (x y : Watch) : Type 0 where
   pub is : feed w (drop i piece) room x ≡ fed_more (j - i) told (feed w (drop j piece) (room - length told) y)
 
 -- WHERE BYTES LEAD, the one invariant of the loops: those from index i to index j lead from state p to state q at a cost, and only the last of them may
@@ -85,7 +85,7 @@ pub record Leads (w piece : List ℕ) (p i q cost j : ℕ) : Type 0 where
   pub cheap : cost ≤ longest_code * (j - i)
   pub feeds :
       (x : Watch) → x.state ≡ p → (k : ℕ) → 1 ≤ k →
-      let told = completed (length w) q (x.taken + (j - i)) in Goes_on w piece i j k told x (further x q (j - i) (length told) cost)
+      let told = completed (length w) q (x.taken + (j - i)) in GoesOn w piece i j k told x (further x q (j - i) (length told) cost)
 
 -- so some bytes have led from state p and index i
 pub record LedFrom (w piece : List ℕ) (p i : ℕ) (s : Led) : Type 0 where
@@ -207,7 +207,7 @@ pub record Turned (w piece : List ℕ) (before p i k : ℕ) (ps : List ℕ) (t :
   pub cheap : t.cost ≤ longest_code * (t.at - i)
   pub feeds :
       (x : Watch) → x.state ≡ p → x.taken ≡ before + i →
-      Goes_on w piece i t.at (length ps - k) told x (further x t.state (t.at - i) (length told) t.cost)
+      GoesOn w piece i t.at (length ps - k) told x (further x t.state (t.at - i) (length told) t.cost)
 
 -- a watch with which n bytes more can be taken, for a code of m bytes: no byte costs more than the longest code has bytes
 pub record Ready (m : ℕ) (x : Watch) (n : ℕ) : Type 0 where

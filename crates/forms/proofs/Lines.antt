@@ -11,7 +11,7 @@ use borrow.Author.Tests.{lt-ltb, le-ltb, ltb-false, eq-eqb, ne_eqb, eqb-true}
 use lib.Dec.{ltb, eqb}
 use lib.ListN.{length, get_or, set, drop, length-set}
 use lib.Seq.{sets, set_out, drop-cons}
-use Rattle.words.proofs.Tests.{by-test, by_le, by-eq, and_left, and_right}
+use Rattle.words.proofs.Tests.{by_test, by_le, by_eq, and_left, and_right}
 use Rattle.forms.specs.declared.Line.{Line}
 use Rattle.forms.specs.declared.Line.TheVariants.{Opening, Code, Closed, Done, Wrong}
 use Rattle.forms.specs.Line.{opening, closing_bracket, line_feed, of_code, depth_after, pairs, line_after, kept_after, goes_on, Read, read}
@@ -147,7 +147,7 @@ by_closed : {G : Type 0} (n : ℕ) (a bs : List ℕ) →
     ((text : List ℕ) → bs ≡ line_feed ∷ text → G) → ((read (Closed n) a bs).line ≡ Wrong → G) → G
 by_closed n a [] f w = w (ends_wrong (Closed n) a refl)
 by_closed n a (b ∷ bs) f w =
-    by-eq b line_feed
+    by_eq b line_feed
     (λ (e : b ≡ line_feed). f bs (ap (λ (c : ℕ). c ∷ bs) e))
     (λ (e : b ≢ line_feed). w (ap (λ (r : Read). r.line) (read_on b bs a (Closed n) Wrong a refl (line_wrong n b a e)) ∙ stays_wrong a bs))
 
@@ -157,11 +157,11 @@ by_code : {G : Type 0} (n d : ℕ) (a bs : List ℕ) →
 unfolding pairs
 by_code n d a [] f w = w (ends_wrong (code_at n d) a refl)
 by_code {G} n d a (b ∷ bs) f w =
-    by-test (of_code d b)
+    by_test (of_code d b)
     (λ (t : of_code d b ≡ true).
     by_code (kept_more n d b a) (depth_after d b) (set a n b) bs (λ code text g e. f (b ∷ code) text (rw t g) (ap (λ (c : List ℕ). b ∷ c) e))
     (goes (code_at (kept_more n d b a) (depth_after d b)) (set a n b) (code_more n d b a t)))
-    (λ (t : of_code d b ≡ false). by-eq b closing_bracket (closes t) (λ e. goes Wrong a (code_wrong n d b a t e) (stays_wrong a bs)))
+    (λ (t : of_code d b ≡ false). by_eq b closing_bracket (closes t) (λ e. goes Wrong a (code_wrong n d b a t e) (stays_wrong a bs)))
   where
     goes : (m : Line) (c : List ℕ) → After (code_at n d) b a m c → (read m c bs).line ≡ Wrong → G
     goes m c h e = w (ap (λ (r : Read). r.line) (read_on b bs a (code_at n d) m c refl h) ∙ e)
@@ -187,11 +187,11 @@ by_opening : {G : Type 0} (k n : ℕ) (a bs : List ℕ) → n + suc k ≡ 6 →
 by_opening k n a [] m f w = w (ends_wrong (Opening n) a refl)
 by_opening zero n a (b ∷ bs) m f w =
     let last : n ≡ 5 = omega arith in
-    by-eq (get_or opening n 0) b
+    by_eq (get_or opening n 0) b
     (λ (e : get_or opening n 0 ≡ b). f bs (opening_split n b bs bs (omega arith) e (rw last refl)))
     (λ (e : get_or opening n 0 ≢ b). w (opening_breaks n b a bs e))
 by_opening (suc k) n a (b ∷ bs) m f w =
-    by-eq (get_or opening n 0) b
+    by_eq (get_or opening n 0) b
     (λ (e : get_or opening n 0 ≡ b).
     by_opening k (n + 1) a bs (omega arith) (λ rest g. f rest (opening_split n b bs rest (omega arith) e (rw (add-one n) at g)))
     (λ h. w (opening_goes n b a bs (Opening (n + 1)) (opening_more (length a) n b (omega arith) e) ∙ h)))

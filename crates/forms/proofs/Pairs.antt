@@ -11,7 +11,7 @@ use lib.Dec.{ltb, eqb}
 use lib.ListN.{take}
 use lib.Seq.{take-nil}
 use Rattle.words.specs.Words.{Every}
-use Rattle.words.proofs.Tests.{by-eq, and_left, and_right, and_both}
+use Rattle.words.proofs.Tests.{by_eq, and_left, and_right, and_both}
 use Rattle.forms.specs.Line.{opening_bracket, closing_bracket, line_feed, deepest, of_code, depth_after, pairs}
 use Rattle.forms.specs.Promise.{count, Balanced, PairsBalance}
 
@@ -66,10 +66,10 @@ by_byte : {P : Type 0} (b : ℕ) →
     (b ≡ closing_bracket → openings (b ∷ []) ≡ 0 → closings (b ∷ []) ≡ 1 → P) →
     (b ≢ opening_bracket → b ≢ closing_bracket → openings (b ∷ []) ≡ 0 → closings (b ∷ []) ≡ 0 → P) → P
 by_byte b f g h =
-    by-eq b opening_bracket
+    by_eq b opening_bracket
     (λ (e : b ≡ opening_bracket). f e (count_one opening_bracket b e) (count_none closing_bracket b (λ n. omega (arith, e, n))))
     (λ (m : b ≢ opening_bracket).
-    by-eq b closing_bracket
+    by_eq b closing_bracket
     (λ (e : b ≡ closing_bracket). g e (count_none opening_bracket b m) (count_one closing_bracket b e))
     (λ (n : b ≢ closing_bracket). h m n (count_none opening_bracket b m) (count_none closing_bracket b n)))
 

@@ -10,7 +10,7 @@ use lib.ListN.{length, take, drop, length-append, take-append-drop, get_or-appen
 use lib.Pow.{pow_mono, pow-lt}
 use lib.Seq.{take-length, take-take, take-append-le, get_or-take, get_or-append_seam, length-take-le}
 use Rattle.words.specs.Words.{byte, Every, suffix, state_of}
-use Rattle.words.proofs.Tests.{by-eq}
+use Rattle.words.proofs.Tests.{by_eq}
 use Rattle.words.proofs.Lists.{every_append, suffix_whole, suffix_append}
 use Rattle.words.proofs.Largest.{state_start}
 use Rattle.words.proofs.Borders.{Border}
@@ -43,7 +43,7 @@ ruler_within j k h = omega (arith, ruler_length j, ruler_length k, pow_mono h)
 ruler_begins : (j k : ℕ) → j ≤ k → take (length (ruler j)) (ruler k) ≡ ruler j
 ruler_begins j zero h = let e : j ≡ 0 = omega arith in rw e (take-length (ruler 0))
 ruler_begins j (suc k) h =
-    by-eq j (suc k)
+    by_eq j (suc k)
     (λ (e : j ≡ suc k). rw e (take-length (ruler (suc k))))
     (λ (d : j ≢ suc k).
     rw (ruler_next k) (take-append-le (length (ruler j)) (ruler k) ((32 + k) ∷ ruler k) (ruler_within j k (omega arith)) ∙ ruler_begins j k (omega arith)))
@@ -51,7 +51,7 @@ ruler_begins j (suc k) h =
 ruler_ends : (j k : ℕ) → j ≤ k → suffix (length (ruler j)) (ruler k) ≡ ruler j
 ruler_ends j zero h = let e : j ≡ 0 = omega arith in rw e (suffix_whole (length (ruler 0)) (ruler 0) refl)
 ruler_ends j (suc k) h =
-    by-eq j (suc k)
+    by_eq j (suc k)
     (λ (e : j ≡ suc k). rw e (suffix_whole (length (ruler (suc k))) (ruler (suc k)) refl))
     (λ (d : j ≢ suc k).
     ap (suffix (length (ruler j))) (ruler_next k ∙ sym (append_assoc (ruler k) ((32 + k) ∷ []) (ruler k)))
@@ -63,7 +63,7 @@ ruler_label : (j k : ℕ) → j < k → byte (ruler k) (length (ruler j)) ≡ 32
 unfolding ruler byte
 ruler_label j zero h = absurd (omega arith)
 ruler_label j (suc k) h =
-    by-eq j k
+    by_eq j k
     (λ (e : j ≡ k). rw e (get_or-append_seam (ruler k) (32 + k) (ruler k) 0))
     (λ (d : j ≢ k).
     get_or-append (ruler k) ((32 + k) ∷ ruler k) 0 (length (ruler j)) (ruler_shorter j k (omega arith)) ∙ ruler_label j k (omega arith))

@@ -10,7 +10,7 @@ use lib.Count.{count_trailing_zeros}
 use lib.ListN.{length, get_or, take, set, length-set, get_or-append}
 use lib.Seq.{take_all, take-suc, take-suc-set, get_or-take, get_or_at, get_or-append-add}
 use Rattle.words.specs.Words.{byte}
-use Rattle.words.proofs.Tests.{by_le, by-eq}
+use Rattle.words.proofs.Tests.{by_le, by_eq}
 use Rattle.automaton.specs.Ceilings.{log2}
 use Rattle.automaton.specs.Promise.{LogarithmRight}
 use Rattle.automaton.proofs.Logarithm.{exponent_less, logarithm_right}
@@ -57,7 +57,7 @@ trailing_added (suc d) zero r l h = absurd (omega arith)
 trailing_added (suc d) (suc k) r l h =
     let low : (2 ^ suc k + r) % 2 ≡ r % 2 = omega (arith, two-pow-succ k) in
     let half : (2 ^ suc k + r) / 2 ≡ 2 ^ k + r / 2 = omega (arith, two-pow-succ k) in
-    by-eq (r % 2) 0
+    by_eq (r % 2) 0
     (λ (e : r % 2 ≡ 0). rw (low, half, e) (ap suc (trailing_added d k (r / 2) (omega arith) (omega (arith, two-pow-succ k)))))
     (λ (n : r % 2 ≢ 0). let odd : r % 2 ≡ 1 = omega arith in rw (low, odd) refl)
 
@@ -70,7 +70,7 @@ ruler_byte d (suc k) i u h =
     rw (ruler_next k)
     (by_le (length (ruler k)) i
     (λ (l : length (ruler k) ≤ i).
-    by-eq (length (ruler k)) i
+    by_eq (length (ruler k)) i
     (λ (e : length (ruler k) ≡ i).
     let at : suc i ≡ 2 ^ k = omega arith in
     get_or_at (ruler k) (32 + k) (ruler k) 0 i e ∙ rw (at, trailing_power d k (omega arith)) refl)

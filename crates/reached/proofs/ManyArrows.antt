@@ -8,7 +8,7 @@ use native.Mathlib.Omega.{arith}
 use lib.Dec.{eqb}
 use lib.ListN.{length}
 use Rattle.words.specs.Words.{byte, member, state_of}
-use Rattle.words.proofs.Tests.{by-test, by_le}
+use Rattle.words.proofs.Tests.{by_test, by_le}
 use Rattle.words.proofs.Lists.{member_nil, member_other}
 use Rattle.words.proofs.Borders.{Border}
 use Rattle.automaton.specs.declared.Step.{Step}
@@ -50,7 +50,7 @@ some_cost w p c h = rw (costs_right w p c) (go (back_targets w p) h)
   where
     go : (ts : List ℕ) → 1 ≤ length ts → 1 ≤ compared c (map (label w) ts ++ forward w p)
     go [] l = absurd (omega arith)
-    go (t ∷ ts) l = by-test (eqb (label w t) c) (λ e. rw e (omega arith)) (λ e. rw e (omega arith))
+    go (t ∷ ts) l = by_test (eqb (label w t) c) (λ e. rw e (omega arith)) (λ e. rw e (omega arith))
 
 -- the forward byte costs a comparison for each arrow back, and one more
 pub forward_pays : (w ts : List ℕ) (p c : ℕ) → state_of w ts ≡ p → p < length w → byte w p ≡ c → cost_after w ts c ≡ suc (arrows w p)

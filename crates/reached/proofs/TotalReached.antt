@@ -10,7 +10,7 @@ use lib.ListN.{length, get_or-append}
 use lib.Seq.{get_or_at}
 use borrow.Author.Tests.{eq-eqb, ne_eqb}
 use Rattle.words.specs.Words.{byte, Every, state_of}
-use Rattle.words.proofs.Tests.{by_le, by-eq}
+use Rattle.words.proofs.Tests.{by_le, by_eq}
 use Rattle.words.proofs.Lists.{every_append, length_snoc}
 use Rattle.words.proofs.Ends.{Ends, ends_zero, ends_longer, ends_inside, ends_label}
 use Rattle.words.proofs.Largest.{Largest, state_is}
@@ -45,14 +45,14 @@ unfolding spaced
 every_spaced P m zero a b = tt
 every_spaced P m (suc n) a b =
     (every_append P (spaced m n) (spaced_byte m n ∷ [])).1
-    (every_spaced P m n a b, (by-eq (n % m) 0 (λ e. rw (spaced_a m n e) a) (λ d. rw (spaced_b m n d) b), tt))
+    (every_spaced P m n a b, (by_eq (n % m) 0 (λ e. rw (spaced_a m n e) a) (λ d. rw (spaced_b m n d) b), tt))
 
 pub byte_spaced : (m n i : ℕ) → i < n → byte (spaced m n) i ≡ spaced_byte m i
 unfolding spaced byte
 byte_spaced m zero i h = absurd (omega arith)
 byte_spaced m (suc n) i h =
     let c : ℕ = spaced_byte m n in
-    by-eq i n
+    by_eq i n
     (λ (e : i ≡ n). rw e (get_or_at (spaced m n) c [] 0 n (spaced_length m n)))
     (λ (d : i ≢ n). get_or-append (spaced m n) (c ∷ []) 0 i (omega (arith, spaced_length m n)) ∙ byte_spaced m n i (omega arith))
 

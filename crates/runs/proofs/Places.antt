@@ -8,7 +8,7 @@ use native.Mathlib.Omega.{arith}
 use lib.ListN.{length, take, length-append}
 use lib.Seq.{append_snoc, take_at}
 use Rattle.words.specs.Words.{member, Every, Rising}
-use Rattle.words.proofs.Tests.{by-eq, never_both}
+use Rattle.words.proofs.Tests.{by_eq, never_both}
 use Rattle.words.proofs.Lists.{member_nil, member_head, member_other, member_more, length_snoc}
 use Rattle.runs.specs.Reading.{over, place_if}
 
@@ -105,7 +105,7 @@ module _ (m : ℕ) (t : List ℕ → Bool) (fits : (us : List ℕ) → t us ≡ 
       go : (b : Bool) → t vs ≡ b → member i (place_if b (suc (length us) - m) ++ found_from vs ts) ≡ true →
           (member i (found_from vs ts) ≡ true → Place us (c ∷ ts) i) → Place us (c ∷ ts) i
       go true e h more =
-          by-eq (suc (length us) - m) i
+          by_eq (suc (length us) - m) i
           (λ (d : suc (length us) - m ≡ i).
           let n : length vs ≡ suc (length us) = length_snoc us c in
           let at : i + m ≡ suc (length us) = omega (arith, fits vs e) in
@@ -118,7 +118,7 @@ module _ (m : ℕ) (t : List ℕ → Bool) (fits : (us : List ℕ) → t us ≡ 
   place_member us [] i p = absurd (omega (arith, p.from, p.within))
   place_member us (c ∷ ts) i p =
       let n : length (us ++ (c ∷ [])) ≡ suc (length us) = length_snoc us c in
-      by-eq (i + m) (suc (length us))
+      by_eq (i + m) (suc (length us))
       (λ (d : i + m ≡ suc (length us)).
       here d (rw (place_here us ts c i d) at p.ends))
       (λ (d : i + m ≢ suc (length us)).

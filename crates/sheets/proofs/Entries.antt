@@ -10,7 +10,7 @@ use lib.ListN.{length, take, drop, length-drop}
 use lib.Seq.{take-append_seam, length-take-le}
 use borrow.Author.Tests.{ne_eqb, lt-ltb, le-ltb, le-leb}
 use Rattle.words.specs.Words.{same, in_front}
-use Rattle.words.proofs.Tests.{by-test, by_le, by-eq}
+use Rattle.words.proofs.Tests.{by_test, by_le, by_eq}
 use Rattle.words.proofs.Lists.{in_front_long}
 use Rattle.codes.specs.declared.Answer.TheVariants.{Value, Refused}
 use Rattle.codes.specs.Refusals.{refused_if, first_refusal}
@@ -58,7 +58,7 @@ module _ (w a : List ℕ) where
 pub prepare_roomy : (w : List ℕ) (k : ℕ) → longest_sheet ≤ k → prepare_refusal w k ≡ code_refusal w
 unfolding prepare_refusal first_refusal refused_if
 prepare_roomy w k h =
-    by-eq (code_refusal w) 0
+    by_eq (code_refusal w) 0
     (λ (e : code_refusal w ≡ 0). rw (e, le-ltb k (sheet_room (length w)) (omega (arith, room_bound (length w) (code_bounds w e).1))))
     (λ (n : code_refusal w ≢ 0). first_here (code_refusal w) (refused_if 3 (ltb k (sheet_room (length w))) ∷ []) n)
 
@@ -105,7 +105,7 @@ fresh {w} {a} {area} {n} bs m r e =
 -- THE CHECK of a buffer, test by test
 module _ (bs : List ℕ) where
   not_begins : (begins bs ≡ true → ⊥) → false ≡ begins bs
-  not_begins f = sym (by-test (begins bs) (λ e. absurd (f e)) (λ e. e))
+  not_begins f = sym (by_test (begins bs) (λ e. absurd (f e)) (λ e. e))
 
   pub too_short : length bs < code_start (named_length bs) + named_length bs → false ≡ begins bs
   too_short h = not_begins (λ e. omega (arith, begins_long bs e, begins_size bs e, ap code_start (begins_size bs e)))

@@ -11,7 +11,7 @@ use lib.ListN.{length, get_or, take, drop, length-append, take-append-drop}
 use lib.Seq.{take-append_seam, get_or-take}
 use borrow.Author.Tests.{eq-eqb, ne_eqb}
 use Rattle.words.specs.Words.{same, in_front}
-use Rattle.words.proofs.Tests.{by-test, by_le, and_left, and_right}
+use Rattle.words.proofs.Tests.{by_test, by_le, and_left, and_right}
 use Rattle.words.proofs.Lists.{eq_same, same_eq}
 use Rattle.automaton.specs.Arrows.{arrows_below, all_targets, back_arrows}
 use Rattle.automaton.proofs.Counts.{below_one}
@@ -200,7 +200,7 @@ begins_right = (
 -- a buffer that begins with a 0 byte and names a length of up to 255 begins with no sheet
 not_short : (bs : List ℕ) → get_or bs 0 0 ≡ 0 → named_length bs ≤ 255 → begins bs ≡ false
 not_short bs first few =
-    by-test (begins bs)
+    by_test (begins bs)
     (λ (b : begins bs ≡ true).
     let short : length (named bs) ≤ longest_short = omega (arith, few, begins_size bs b) in
     let own : get_or bs 0 0 ≡ length (named bs) =

@@ -11,7 +11,7 @@ use lib.ListN.{length, get_or, take, drop, length-append, get_or-append, drop_of
 use lib.Seq.{drop-cons, append_snoc, sets}
 use borrow.Author.Tests.{eq-eqb, ne_eqb}
 use Rattle.words.specs.Words.{byte}
-use Rattle.words.proofs.Tests.{by-test, by_le}
+use Rattle.words.proofs.Tests.{by_test, by_le}
 use Rattle.words.proofs.Lists.{length_snoc, every_at}
 use Rattle.words.proofs.Borders.{longest_is}
 use Rattle.automaton.specs.Arrows.{label, back_targets, targets_below, arrows, arrows_below}
@@ -134,7 +134,7 @@ module _ {w a b : List ℕ} {r t : ℕ} {f : Filled} {left : List ℕ} (u : Stor
   pub put_next : Storing w r a (put_buffer w r t f b) (put_result w r t f) left
   unfolding put_buffer put_result
   put_next =
-      by-test (drops w r t) (λ e. rw e (next_dropped e)) (λ e. rw e (next_stored e))
+      by_test (drops w r t) (λ e. rw e (next_dropped e)) (λ e. rw e (next_stored e))
 
 -- the loop over the targets of the longest border β, of which j are put: it goes from one number to another
 pub record Copying (w a : List ℕ) (r β end : ℕ) (b : List ℕ) (f : Filled) (i : ℕ) : Type 0 where

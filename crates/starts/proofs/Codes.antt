@@ -8,7 +8,7 @@ use native.Mathlib.Omega.{arith}
 use lib.ListN.{length}
 use lib.Seq.{take-length}
 use Rattle.words.specs.Words.{same}
-use Rattle.words.proofs.Tests.{by-test, never_both, fails, or_none, or_swap}
+use Rattle.words.proofs.Tests.{by_test, never_both, fails, or_none, or_swap}
 use Rattle.words.proofs.Lists.{same_refl, same_eq, not_same, same_sym}
 use Rattle.starts.specs.Starts.{code, known, is_code, index, number, twice}
 use Rattle.starts.proofs.States.{start_test, known_at}
@@ -27,7 +27,7 @@ pub index_below : (ws : List (List ℕ)) (u : List ℕ) → is_code ws u ≡ tru
 unfolding is_code
 index_below [] u e = absurd (never_both e refl)
 index_below (w ∷ ws) u e =
-    by-test (same w u)
+    by_test (same w u)
     (λ t. omega (arith, index_here w u ws t))
     (λ t. omega (arith, index_later w u ws t, index_below ws u (rw t at e)))
 
@@ -35,7 +35,7 @@ pub code_index : (ws : List (List ℕ)) (u : List ℕ) → is_code ws u ≡ true
 unfolding is_code code
 code_index [] u e = absurd (never_both e refl)
 code_index (w ∷ ws) u e =
-    by-test (same w u)
+    by_test (same w u)
     (λ t. rw (index_here w u ws t) (same_eq w u t))
     (λ t. rw (index_later w u ws t) (code_index ws u (rw t at e)))
 
@@ -50,7 +50,7 @@ unfolding code
 index_least [] j h = absurd (omega arith)
 index_least (w ∷ ws) zero h = omega (arith, index_here w w ws (same_refl w))
 index_least (w ∷ ws) (suc j) h =
-    by-test (same w (code ws j))
+    by_test (same w (code ws j))
     (λ t. omega (arith, index_here w (code ws j) ws t))
     (λ t. omega (arith, index_later w (code ws j) ws t, index_least ws j (omega arith)))
 
@@ -84,14 +84,14 @@ number_none ws u e = rw e
 
 pub number_few : (ws : List (List ℕ)) (u : List ℕ) → number ws u ≤ length ws
 number_few ws u =
-    by-test (is_code ws u)
+    by_test (is_code ws u)
     (λ e. omega (arith, number_code ws u e, index_below ws u e))
     (λ e. omega (arith, number_none ws u e))
 
 -- the code that has a number
 module _ (ws : List (List ℕ)) (u : List ℕ) (i : ℕ) (e : number ws u ≡ suc i) where
   pub numbered_code : is_code ws u ≡ true
-  numbered_code = by-test (is_code ws u) (λ t. t) (λ t. absurd (omega (arith, e, number_none ws u t)))
+  numbered_code = by_test (is_code ws u) (λ t. t) (λ t. absurd (omega (arith, e, number_none ws u t)))
 
   pub numbered : (i < length ws) × (code ws i ≡ u)
   numbered =
@@ -126,7 +126,7 @@ index_kept : (ws vs : List (List ℕ)) (u : List ℕ) → is_code ws u ≡ true 
 unfolding is_code
 index_kept [] vs u e = absurd (never_both e refl)
 index_kept (w ∷ ws) vs u e =
-    by-test (same w u)
+    by_test (same w u)
     (λ t. index_here w u (ws ++ vs) t ∙ sym (index_here w u ws t))
     (λ t. rw (index_later w u (ws ++ vs) t, index_later w u ws t, index_kept ws vs u (rw t at e)))
 
@@ -166,7 +166,7 @@ is_code_more ws w u = rw (is_code_append ws (w ∷ []) u, or-false (same w u))
 
 pub number_other : (ws : List (List ℕ)) (w u : List ℕ) → w ≢ u → number (ws ++ (w ∷ [])) u ≡ number ws u
 number_other ws w u d =
-    by-test (is_code ws u) (number_kept ws (w ∷ []) u)
+    by_test (is_code ws u) (number_kept ws (w ∷ []) u)
     (λ e.
     let more : is_code (ws ++ (w ∷ [])) u ≡ false = rw (is_code_more ws w u, e, not_same w u d) in
     number_none (ws ++ (w ∷ [])) u more ∙ sym (number_none ws u e))

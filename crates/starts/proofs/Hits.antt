@@ -9,7 +9,7 @@ use native.Mathlib.Omega.{arith}
 use lib.ListN.{length}
 use borrow.Author.Tests.{lt-ltb, le-ltb, eq-eqb}
 use Rattle.words.specs.Words.{suffix}
-use Rattle.words.proofs.Tests.{by-test, by-eq, never_both, fails}
+use Rattle.words.proofs.Tests.{by_test, by_eq, never_both, fails}
 use Rattle.words.proofs.Lists.{not_same, length_snoc, length_suffix, suffix_whole, suffix_suffix}
 use Rattle.runs.specs.Reading.{over}
 use Rattle.starts.specs.Starts.{code, known, longest_end, reached, is_code, index, number, nearest, shorter}
@@ -34,7 +34,7 @@ module _ (ws : List (List ℕ)) (t : ℕ) where
       hits_within ws b u t ≡ hits_within ws a u t
   hits_cut a zero u h f = let e : a ≡ 0 = omega arith in rw e
   hits_cut a (suc b) u h f =
-      by-eq a (suc b)
+      by_eq a (suc b)
       (λ (d : a ≡ suc b). rw d)
       (λ (d : a ≢ suc b).
       hits_below b u (f (suc b) (omega arith) (omega arith)) ∙ hits_cut a b u (omega arith) (λ r x y. f r x (omega arith)))
@@ -78,7 +78,7 @@ module _ (ws : List (List ℕ)) (t : ℕ) where
   unfolding hits_within
   chain_end zero u e = refl
   chain_end (suc n) u e =
-      by-test (is_code ws (suffix (suc n) u))
+      by_test (is_code ws (suffix (suc n) u))
       (λ c. absurd (omega (arith, e, ap (number ws) (longest_whole (is_code ws) (suc n) u c), number_code ws (suffix (suc n) u) c)))
       (λ c.
       let less : longest_end (is_code ws) (suc n) u ≡ longest_end (is_code ws) n u =
@@ -119,7 +119,7 @@ module _ (ws : List (List ℕ)) (t : ℕ) where
 grow : (ws : List (List ℕ)) (n : ℕ) (u : List ℕ) (t : ℕ) →
     (length (hits_within ws n u t) ≤ length (hits_within ws (suc n) u t)) × (length (hits_within ws (suc n) u t) ≤ suc (length (hits_within ws n u t)))
 grow ws n u t =
-    by-test (is_code ws (suffix (suc n) u))
+    by_test (is_code ws (suffix (suc n) u))
     (λ c. rw (hits_here ws t n u c) (omega arith, omega arith))
     (λ c. rw (hits_below ws t n u c) (omega arith, omega arith))
 
@@ -129,7 +129,7 @@ module _ (w : List ℕ) (ws : List (List ℕ)) (u : List ℕ) (t : ℕ) where
   unfolding is_code
   few_more n m d l h =
       let v : List ℕ = suffix (suc n) u in
-      by-test (is_code (w ∷ ws) v)
+      by_test (is_code (w ∷ ws) v)
       (λ c.
       let other : is_code ws v ≡ true = rw (not_same w v (λ q. absurd (omega (arith, d, ap length q, length_suffix (suc n) u l)))) at c in
       rw (hits_here (w ∷ ws) t n u c, hits_here ws t n u other) (omega arith))
@@ -142,7 +142,7 @@ module _ (w : List ℕ) (ws : List (List ℕ)) (u : List ℕ) (t : ℕ) where
   few_above : (n : ℕ) → n ≤ length u → length (hits_within (w ∷ ws) n u t) ≤ length (hits_within ws n u t) + 1
   few_above zero l = unfold hits_within in omega arith
   few_above (suc n) l =
-      by-eq (suc n) (length w)
+      by_eq (suc n) (length w)
       (λ (d : suc n ≡ length w). omega (arith, (grow (w ∷ ws) n u t).1, few_below n (omega arith) (omega arith), (grow ws n u t).0))
       (λ (d : suc n ≢ length w). few_more n 1 d l (few_above n (omega arith)))
 
@@ -197,7 +197,7 @@ module _ (ws : List (List ℕ)) where
       every_hit_map (hits_within ws n u t)
       (λ k s. record { some = s.some; listed = s.listed; ends = s.ends; short = omega (arith, s.short) })
       (hits_places n u t (omega arith) l) in
-      by-test (is_code ws v)
+      by_test (is_code ws v)
       (λ e. rw (hits_here ws t n u e) (stands t (suc n) v e (length_suffix (suc n) u h) (omega arith), more))
       (λ e. rw (hits_below ws t n u e) more)
 
@@ -237,7 +237,7 @@ module _ (ws : List (List ℕ)) where
       let o : Hit = hit (t - suc n) (number ws v) in
       let size : length v ≡ suc n = length_suffix (suc n) u h in
       let more : Ordered ws (hits_within ws n u t) = within_ordered n u t (omega arith) l in
-      by-test (is_code ws v)
+      by_test (is_code ws v)
       (λ e.
       rw (hits_here ws t n u e) (
         every_hit_map (hits_within ws n u t)

@@ -10,7 +10,7 @@ use lib.ListN.{length, take}
 use lib.Seq.{take-length}
 use borrow.Author.Tests.{eq-eqb, ne_eqb}
 use Rattle.words.specs.Words.{suffix, ends_with}
-use Rattle.words.proofs.Tests.{by-test, by-eq, never_both}
+use Rattle.words.proofs.Tests.{by_test, by_eq, never_both}
 use Rattle.words.proofs.Lists.{length_suffix}
 use Rattle.words.proofs.Ends.{ends_is, ends_test}
 use Rattle.runs.specs.Reading.{over, place_if}
@@ -25,7 +25,7 @@ pub places_append : (j : ℕ) (hs ks : List Hit) → places_of j (hs ++ ks) ≡ 
 unfolding places_of
 places_append j [] ks = refl
 places_append j (h ∷ hs) ks =
-    by-test (eqb h.number j)
+    by_test (eqb h.number j)
     (λ t. rw t (ap (λ (l : List ℕ). h.place ∷ l) (places_append j hs ks)))
     (λ t. rw t (places_append j hs ks))
 
@@ -40,7 +40,7 @@ module _ (ws : List (List ℕ)) (once : twice ws ≡ false) (empty : is_code ws 
     unfolding places_of
     places_other d =
         let v : List ℕ = suffix (suc n) u in
-        by-test (is_code ws v)
+        by_test (is_code ws v)
         (λ e. rw (hits_here ws t n u e, ne_eqb (number ws v) (suc j) (λ i. d (sym (numbered ws v j i).1))) refl)
         (λ e. rw (hits_below ws t n u e) refl)
 
@@ -61,7 +61,7 @@ module _ (ws : List (List ℕ)) (once : twice ws ≡ false) (empty : is_code ws 
     places_one : (n : ℕ) → n ≤ length u → length w ≤ n → suffix (length w) u ≡ w → places_of (suc j) (hits_within ws n u t) ≡ (t - length w) ∷ []
     places_one zero h l e = absurd (omega (arith, code_some ws empty w (is_code_at ws j inside)))
     places_one (suc n) h l e =
-        by-eq (suc n) (length w)
+        by_eq (suc n) (length w)
         (λ (d : suc n ≡ length w).
         places_own n u t (rw d e)
         ∙ rw (places_none n (λ k b. differs k (omega arith) (λ q. absurd (omega arith))), d) refl)
@@ -76,7 +76,7 @@ module _ (ws : List (List ℕ)) (once : twice ws ≡ false) (empty : is_code ws 
       let u : List ℕ = ts ++ (c ∷ []) in
       let t : ℕ = suc (length ts) in
       let whole : take (length w) w ≡ w = take-length w in
-      by-test (ends_with u w (length w))
+      by_test (ends_with u w (length w))
       (λ e.
       let is = ends_is u w (length w) e in
       places_one u t (length u) (omega arith) is.fits (is.same ∙ whole)

@@ -9,7 +9,7 @@ use lib.ListN.{length, take, drop, length-take, take-append-drop}
 use lib.Seq.{take-suc, get_or-take, length-take-le}
 use borrow.Author.Tests.{le-leb, lt-leb, eq-eqb}
 use Rattle.words.specs.Words.{byte, same}
-use Rattle.words.proofs.Tests.{by-test, by_le, never_both, fails}
+use Rattle.words.proofs.Tests.{by_test, by_le, never_both, fails}
 use Rattle.words.proofs.Lists.{same_refl, same_eq, eq_same, not_same, length_snoc, snoc_front, snoc_last}
 use Rattle.starts.specs.Starts.{code, is_start, known, total, offset, state, start, is_state}
 
@@ -139,7 +139,7 @@ pub known_first : (ws : List (List ℕ)) (u : List ℕ) → known ws u ≡ true 
 unfolding code offset total
 known_first [] u k h = absurd (never_both k (known_none u h))
 known_first (w ∷ ws) u k h =
-    by-test (is_start u w)
+    by_test (is_start u w)
     (λ t. record { at = 0; below = omega arith; has = t; state_is = omega (arith, state_here w u ws t); earlier = known_none u h })
     (λ t.
     let f = known_first ws u (sym (known_later w u ws t) ∙ k) h in
@@ -228,13 +228,13 @@ state_is_state ws u k = eq-eqb (state ws (start ws (state ws u))) (state ws u) (
 pub known_append : (ws vs : List (List ℕ)) (u : List ℕ) → known (ws ++ vs) u ≡ known ws u || known vs u
 unfolding known
 known_append [] vs u =
-    by-test (same u []) (λ t. rw t (ap (known vs) (same_eq u [] t) ∙ known_nil vs)) (λ t. rw t)
+    by_test (same u []) (λ t. rw t (ap (known vs) (same_eq u [] t) ∙ known_nil vs)) (λ t. rw t)
 known_append (w ∷ ws) vs u = rw (known_append ws vs u, or_assoc (is_start u w) (known ws u) (known vs u))
 
 known_one : (w u : List ℕ) → known (w ∷ []) u ≡ is_start u w
 unfolding known
 known_one w u =
-    by-test (is_start u w)
+    by_test (is_start u w)
     (λ t. rw t)
     (λ t. rw t (not_same u [] (λ e. never_both (is_start_nil w) (rw e at t))))
 
@@ -252,7 +252,7 @@ pub state_kept : (ws vs : List (List ℕ)) (u : List ℕ) → known ws u ≡ tru
 unfolding known
 state_kept [] vs u k = rw (same_eq u [] k) (state_nil vs ∙ sym (state_nil []))
 state_kept (w ∷ ws) vs u k =
-    by-test (is_start u w)
+    by_test (is_start u w)
     (λ t. state_here w u (ws ++ vs) t ∙ sym (state_here w u ws t))
     (λ t. rw (state_later w u (ws ++ vs) t, state_later w u ws t, state_kept ws vs u (sym (known_later w u ws t) ∙ k)))
 
@@ -260,7 +260,7 @@ state_behind : (ws vs : List (List ℕ)) (u : List ℕ) → known ws u ≡ false
 unfolding total
 state_behind [] vs u k = omega arith
 state_behind (w ∷ ws) vs u k =
-    by-test (is_start u w)
+    by_test (is_start u w)
     (λ t. absurd (never_both (known_here w u ws t) k))
     (λ t. omega (arith, state_later w u (ws ++ vs) t, state_behind ws vs u (sym (known_later w u ws t) ∙ k)))
 

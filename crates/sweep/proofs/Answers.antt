@@ -8,7 +8,7 @@ use native.Mathlib.Omega.{arith}
 use borrow.Author.Tests.{eq-eqb, eqb-true}
 use lib.ListN.{length, take, drop, length-append}
 use lib.Seq.{sets, sets-eq, take-append_seam}
-use Rattle.words.proofs.Tests.{by-eq}
+use Rattle.words.proofs.Tests.{by_eq}
 use Rattle.starts.specs.Starts.{code}
 use Rattle.starts.specs.Hits.{hits}
 use Rattle.starts.proofs.Hits.{every_hit_map, hits_coded, hits_ordered}
@@ -103,7 +103,7 @@ module _ {after to : ℕ} (run : Complete after to) (rest : List ℕ) (f : MayFo
 
   has_head : run.refusal ≢ 8 → HasHead input run.out run.refusal
   has_head n =
-      by-eq run.refusal 0
+      by_eq run.refusal 0
       (λ (z : run.refusal ≡ 0).
       let s = (run.swept z).1 in
       record { codes = s.codes; list = s.list; form = all_came z ∙ s.form; paired = s.paired; is = z ∙ sym s.accepted; all = λ _. s.all })
@@ -117,7 +117,7 @@ module _ {after to : ℕ} (run : Complete after to) (rest : List ℕ) (f : MayFo
       × (head_refusal ws ≡ 0 → AllSwept ws list run.out)
   unfolding NoHead HeadsUnique
   answer_headed ws list p e =
-      by-eq run.refusal 8
+      by_eq run.refusal 8
       (λ (w : run.refusal ≡ 8). absurd (run.wrong w rest f ws list p e))
       (λ (n : run.refusal ≢ 8).
       let h = has_head n in
@@ -128,7 +128,7 @@ module _ {after to : ℕ} (run : Complete after to) (rest : List ℕ) (f : MayFo
   answer_headless : NoHead input → run.out ≡ refused_form 8
   unfolding NoHead
   answer_headless none =
-      by-eq run.refusal 8
+      by_eq run.refusal 8
       (λ (w : run.refusal ≡ 8). rw w at (run.refused (λ z. omega arith)))
       (λ (n : run.refusal ≢ 8). let h = has_head n in absurd (none h.codes h.list h.paired h.form))
 

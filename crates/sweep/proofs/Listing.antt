@@ -7,7 +7,7 @@ use Prim.Native.Nat.{ℕ, ◌≤◌, zero-le}
 use native.Mathlib.Omega.{arith}
 use lib.ListN.{length, take}
 use lib.Seq.{length-take-le, take_all}
-use Rattle.words.proofs.Tests.{by-eq}
+use Rattle.words.proofs.Tests.{by_eq}
 use Rattle.streams.specs.Receipts.{Came, Ended, Sent, Told, Moved}
 use Rattle.streams.specs.Streams.{DoneOrTold, Brought, Rises}
 use Rattle.streams.proofs.Moving.{is_done, is_told, moved_none, moved_join}
@@ -180,7 +180,7 @@ module _ {ws : List (List ℕ)} where
 
     end_swept : {at after : ℕ} → Moved Came at after bytes → Ended after → complete ≡ true → ListSwept ws at after to
     end_swept came ended e =
-        by-eq s.name 0
+        by_eq s.name 0
         (λ (z : s.name ≡ 0).
         let said = (end_says z).done e in
         record {
@@ -207,7 +207,7 @@ module _ {ws : List (List ℕ)} where
 
     end_stopped : {at after : ℕ} → Moved Came at after bytes → Ended after → complete ≡ false → Told × ListStopped ws at after to
     end_stopped came ended e =
-        by-eq s.name 0
+        by_eq s.name 0
         (λ (z : s.name ≡ 0). let t = (end_says z).told e in (t.0, end_unsent came ended z t.1))
         (λ (n : s.name ≢ 0).
         let w = f.within n in

@@ -7,7 +7,7 @@ use Prim.Native.Nat.{ℕ, suc, ◌+◌, ◌-◌, ◌≤◌, ◌<◌, zero-le}
 use native.Mathlib.Omega.{arith}
 use lib.ListN.{length, take, drop, get_or, set}
 use lib.Seq.{take_all, take-append-le, take-suc-set, take-suc, take-add}
-use Rattle.words.proofs.Tests.{by-test}
+use Rattle.words.proofs.Tests.{by_test}
 use Rattle.words.proofs.Lists.{length_snoc}
 use Rattle.streams.specs.Receipts.{Told}
 use Rattle.streams.specs.Streams.{DoneOrTold}
@@ -204,7 +204,7 @@ module _ (path : List ℕ) {s : Sweep} {look : Look} {mid : ℕ} {b : List ℕ} 
 
     file_told : r.ok ≡ false → Told × Stopped ws (list ++ (0 ∷ [])) to
     file_told e =
-        by-test look.ok
+        by_test look.ok
         (λ ok. let t = (file_said ok).told e in (t.0, stopped_behind ok t.1))
         (λ no.
         let t = (p.says.says (files_form ws 0 v.plans) v.said).told no in

@@ -10,7 +10,7 @@ use lib.ListN.{length, take}
 use lib.Seq.{length-take-le}
 use borrow.Author.Tests.{eqb-true, eq-eqb}
 use Rattle.words.specs.Words.{ends_with, largest, state_of}
-use Rattle.words.proofs.Tests.{by_le, by-eq, never_both, same_test}
+use Rattle.words.proofs.Tests.{by_le, by_eq, never_both, same_test}
 use Rattle.words.proofs.Ends.{Ends, ends_is, ends_test, ends_zero, ends_whole}
 
 -- x is the largest number up to l with P
@@ -96,5 +96,5 @@ state_whole w ts =
     same_test (eqb (state_of w ts) (length w)) (ends_with ts w (length w))
     (λ e. ends_test ts w (length w) (rw (eqb-true (state_of w ts) (length w) e) at s.holds))
     (λ e. eq-eqb (state_of w ts) (length w)
-    (by-eq (state_of w ts) (length w) (λ d. d)
+    (by_eq (state_of w ts) (length w) (λ d. d)
     (λ (d : state_of w ts ≢ length w). absurd (s.none (length w) (omega (arith, s.bound)) (omega arith) (ends_is ts w (length w) e)))))

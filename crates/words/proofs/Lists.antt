@@ -10,7 +10,7 @@ use lib.ListN.{length, get_or, take, drop, length-append, length-drop, drop_of_l
 use lib.Seq.{take_at, get_or_at, take-add, drop_at, drop-drop, drop-append-le, drop-append-add, length-take-le}
 use borrow.Author.Tests.{eqb-true, eqb-false, eq-eqb, ne_eqb}
 use Rattle.words.specs.Words.{member, Every, same, suffix, in_front}
-use Rattle.words.proofs.Tests.{by-test, never_both, fails, and_left, and_right, and_both, same_test}
+use Rattle.words.proofs.Tests.{by_test, never_both, fails, and_left, and_right, and_both, same_test}
 
 -- EQUALITY
 pub same_refl : (xs : List ℕ) → same xs xs ≡ true
@@ -60,19 +60,19 @@ member_other v x xs n = rw (ne_eqb x v n)
 
 pub member_more : (v x : ℕ) (xs : List ℕ) → member v xs ≡ true → member v (x ∷ xs) ≡ true
 unfolding member
-member_more v x xs m = by-test (eqb x v) (λ t. rw t) (λ t. rw (t, m))
+member_more v x xs m = by_test (eqb x v) (λ t. rw t) (λ t. rw (t, m))
 
 pub member_fewer : (v x : ℕ) (xs : List ℕ) → member v (x ∷ xs) ≡ false → (x ≢ v) × (member v xs ≡ false)
 unfolding member
 member_fewer v x xs m =
-    by-test (eqb x v)
+    by_test (eqb x v)
     (λ t. let head : member v (x ∷ xs) ≡ true = rw t in absurd (never_both head m))
     (λ t. (eqb-false x v t, rw t at m))
 
 pub member_append : (v : ℕ) (xs ys : List ℕ) → member v (xs ++ ys) ≡ member v xs || member v ys
 unfolding member
 member_append v [] ys = refl
-member_append v (x ∷ xs) ys = by-test (eqb x v) (λ t. rw t) (λ t. rw t (member_append v xs ys))
+member_append v (x ∷ xs) ys = by_test (eqb x v) (λ t. rw t) (λ t. rw t (member_append v xs ys))
 
 -- EVERY element
 pub every_map : {P Q : ℕ → Type 0} (xs : List ℕ) → ((x : ℕ) → P x → Q x) → Every P xs → Every Q xs
@@ -83,7 +83,7 @@ pub every_member : (P : ℕ → Type 0) (xs : List ℕ) → Every P xs → (v : 
 unfolding member
 every_member P [] all v m = absurd (never_both m refl)
 every_member P (x ∷ xs) all v m =
-    by-test (eqb x v)
+    by_test (eqb x v)
     (λ t. rw (eqb-true x v t) at all.0)
     (λ t. every_member P xs all.1 v (rw t at m))
 
