@@ -158,34 +158,10 @@ static int search(FILE *file)
     return !ferror(file);
 }
 
-/* Whether the bytes of a path are UTF-8 text: `sweep` opens no other. */
-static int is_text(const char *path)
-{
-    const uint8_t *s = (const uint8_t *)path;
-    while (*s) {
-        uint32_t c = *s++, least;
-        int more;
-        if (c < 0x80)
-            continue;
-        more = c >= 0xf0 ? 3 : c >= 0xe0 ? 2 : 1;
-        if (c < 0xc0 || c >= 0xf8)
-            return 0;
-        least = more == 3 ? 0x10000 : more == 2 ? 0x800 : 0x80;
-        for (c &= 0x3f >> more; more; more--, s++) {
-            if ((*s & 0xc0) != 0x80)
-                return 0;
-            c = c << 6 | (*s & 0x3f);
-        }
-        if (c < least || c > 0x10ffff || (c >= 0xd800 && c < 0xe000))
-            return 0;
-    }
-    return 1;
-}
-
 /* Looks for the codes in the file of a path. */
 static void search_path(const char *path)
 {
-    FILE *file = strlen(path) > LONGEST_PATH || !is_text(path) ? NULL : fopen(path, "rb");
+    FILE *file = strlen(path) > LONGEST_PATH ? NULL : fopen(path, "rb");
 
     if (file == NULL || !search(file)) {
         printf("(unread %lu)\n", files);
