@@ -3,14 +3,14 @@
 
 ghost use Rattle.bits.specs.Bits.{Top, WithBit, WithoutTop};
 
-// The highest bit of m, 0 where there is none.
+// The highest bit of m, 0 where there is none: `Top` says so, and no caller has such a word.
 pub fn top(m: u64) -> usize
     ensures { Top m result }
 {
     if m == 0 {
         return 0;
     }
-    63 - (u64::leading_zeros(m) as usize)
+    63 - m.leading_zeros() as usize
 }
 
 // m with bit j put. A bit that a word has no room for is not put.

@@ -16,8 +16,8 @@ use Rattle.bits.specs.Bits.{holds, WithBit}
 use Rattle.starts.specs.Starts.{is_start, known, total, state, is_code, number}
 use Rattle.starts.proofs.States.{start_test, known_nil, known_more, known_kept, state_within, state_one, state_kept, state_new}
 use Rattle.starts.proofs.Codes.{code_known, number_code, number_none, number_new, number_other}
-use Rattle.boards.specs.Tables.{part, TreeLists, tree, Tree, Labelled, Went, Ended, Adding, Added}
-use Rattle.boards.proofs.Cuts.{part_length, part_at}
+use Rattle.boards.specs.declared.tree.Tree.{Tree as TreeLists}
+use Rattle.boards.specs.Tables.{tree, Tree, Labelled, Went, Ended, Adding, Added}
 use Rattle.boards.proofs.Grown.{known_shorter, bit_none, bit_put, Grown, tree_more}
 
 -- READY: the tree has the new code too, and `end` is its state
@@ -32,20 +32,16 @@ pub ready_inside : (ws : List (List ℕ)) (w : List ℕ) (t : TreeLists) (end : 
 ready_inside ws w t end x = omega (arith, x.end_is, state_within (ws ++ (w ∷ [])) w (own ws w), x.is_tree.few)
 
 -- THE TWO WAYS: the code was followed to its end, or it branches off
-module _ (ws : List (List ℕ)) (t : TreeLists) (ends bs : List ℕ) (j s l : ℕ) (adding : Adding ws t ends bs j s l) (next : List ℕ)
-    (labelled : Labelled s l bs t.next next) (g d : ℕ) (went : Went ws (part s l bs) g d) where
-  size : length (part s l bs) ≡ l
-  size = part_length s l bs adding.inside
-
-  label : (i : ℕ) → 1 ≤ i → i < length (part s l bs) → get_or next (total ws + i) 0 ≡ byte (part s l bs) i
+module _ (ws : List (List ℕ)) (t : TreeLists) (ends w : List ℕ) (j s : ℕ) (adding : Adding ws t ends w j s) (next : List ℕ)
+    (labelled : Labelled s w t.next next) (g d : ℕ) (went : Went ws w g d) where
+  label : (i : ℕ) → 1 ≤ i → i < length w → get_or next (total ws + i) 0 ≡ byte w i
   unfolding byte
   label i some h =
       let at : s + i ≡ total ws + i = omega (arith, adding.offset_is) in
-      let below : i < l = omega (arith, size) in
-      rw (← at) (labelled.inner i some below ∙ sym (part_at s l bs i below))
+      rw (← at) (labelled.inner i some h)
 
-  labels_behind : (x : ℕ) → total ws + length (part s l bs) ≤ x → get_or next x 0 ≡ get_or t.next x 0
-  labels_behind x h = labelled.behind x (omega (arith, h, size, adding.offset_is))
+  labels_behind : (x : ℕ) → total ws + length w ≤ x → get_or next x 0 ≡ get_or t.next x 0
+  labels_behind x h = labelled.behind x (omega (arith, h, adding.offset_is))
 
   labels_before : (x : ℕ) → x ≤ total ws → get_or next x 0 ≡ get_or t.next x 0
   labels_before x h = labelled.before x (omega (arith, h, adding.offset_is))
@@ -55,30 +51,29 @@ module _ (ws : List (List ℕ)) (t : TreeLists) (ends bs : List ℕ) (j s l : �
 
   -- the state where it branches off is within the lists
   pub followed_low : g ≤ 2000
-  followed_low = omega (arith, went.state_is, state_within ws (take d (part s l bs)) went.known_is, adding.is_tree.few)
+  followed_low = omega (arith, went.state_is, state_within ws (take d w) went.known_is, adding.is_tree.few)
 
-  grown_none : l ≤ d → Grown ws (part s l bs) t (tree next t.forks t.keys t.heads) g d
+  grown_none : length w ≤ d → Grown ws w t (tree next t.forks t.keys t.heads) g d
   grown_none h =
-      let no : ltb d (length (part s l bs)) ≡ false = le-ltb d (length (part s l bs)) (omega (arith, size)) in
+      let no : ltb d (length w) ≡ false = le-ltb d (length w) (omega arith) in
       record {
         labels = label;
         before = labels_before;
         behind = labels_behind;
         next_long = labelled.long;
         forks = rw no (bit_none t.forks g (length ws) adding.is_tree.numbers);
-        keys = rw no (bit_none t.keys (byte (part s l bs) d) (length ws) adding.is_tree.keyed);
-        head = λ (i : d < length (part s l bs)). absurd (omega (arith, size));
+        keys = rw no (bit_none t.keys (byte w d) (length ws) adding.is_tree.keyed);
+        head = λ (i : d < length w). absurd (omega arith);
         heads = λ q n. refl;
         heads_long = refl;
       }
 
-  grown_fork : (c m n : ℕ) → d < l → c ≡ get_or bs (s + d) 0 → c < 256 → WithBit (get_or t.forks g 0) j m → WithBit (get_or t.keys c 0) j n →
-      Grown ws (part s l bs) t (tree next (set t.forks g m) (set t.keys c n) (set t.heads j (s + d + 1))) g d
+  grown_fork : (c m n : ℕ) → d < length w → c ≡ get_or w d 0 → c < 256 → WithBit (get_or t.forks g 0) j m → WithBit (get_or t.keys c 0) j n →
+      Grown ws w t (tree next (set t.forks g m) (set t.keys c n) (set t.heads j (s + d + 1))) g d
   unfolding byte
   grown_fork c m n h is small fork key =
       let room = adding.is_tree.roomy in
-      let yes : ltb d (length (part s l bs)) ≡ true = lt-ltb d (length (part s l bs)) (omega (arith, size)) in
-      let by : c ≡ get_or (part s l bs) d 0 = is ∙ sym (part_at s l bs d h) in
+      let yes : ltb d (length w) ≡ true = lt-ltb d (length w) (omega arith) in
       record {
         labels = label;
         before = labels_before;
@@ -89,7 +84,7 @@ module _ (ws : List (List ℕ)) (t : TreeLists) (ends bs : List ℕ) (j s l : �
             (bit_put t.forks g j (few_bits t.forks adding.is_tree.numbers) m adding.codes_few
             (omega (arith, followed_low, room.forks_long)) fork);
         keys =
-            rw (yes, ← adding.number_is, ← by)
+            rw (yes, ← adding.number_is, ← is)
             (bit_put t.keys c j (few_bits t.keys adding.is_tree.keyed) n adding.codes_few (omega (arith, room.keys_long)) key);
         head =
             λ i.
@@ -100,37 +95,37 @@ module _ (ws : List (List ℕ)) (t : TreeLists) (ends bs : List ℕ) (j s l : �
       }
 
   -- the code's own state
-  end_old : l ≤ d → g ≡ state (ws ++ (part s l bs ∷ [])) (part s l bs)
+  end_old : length w ≤ d → g ≡ state (ws ++ (w ∷ [])) w
   end_old h =
-      let all : take d (part s l bs) ≡ part s l bs = take_all d (part s l bs) (omega (arith, size)) in
-      went.state_is ∙ ap (state ws) all ∙ sym (state_kept ws (part s l bs ∷ []) (part s l bs) (rw all at went.known_is))
+      let all : take d w ≡ w = take_all d w (omega arith) in
+      went.state_is ∙ ap (state ws) all ∙ sym (state_kept ws (w ∷ []) w (rw all at went.known_is))
 
-  end_new : d < l → s + l ≡ state (ws ++ (part s l bs ∷ [])) (part s l bs)
+  end_new : d < length w → s + length w ≡ state (ws ++ (w ∷ [])) w
   end_new h =
-      let none : known ws (part s l bs) ≡ false =
-      by_test (known ws (part s l bs))
-      (λ k. absurd (never_both (known_shorter ws (part s l bs) (suc d) (omega (arith, size)) k) (went.stops (omega (arith, size)))))
+      let none : known ws w ≡ false =
+      by_test (known ws w)
+      (λ k. absurd (never_both (known_shorter ws w (suc d) (omega arith) k) (went.stops (omega arith))))
       (λ k. k) in
-      omega (arith, state_new ws (part s l bs) (part s l bs) none (start_test (part s l bs) (part s l bs) (take-length (part s l bs))), size, adding.offset_is)
+      omega (arith, state_new ws w w none (start_test w w (take-length w)), adding.offset_is)
 
-  room_left : total ws + length (part s l bs) ≤ 2000
-  room_left = omega (arith, size, adding.offset_is, adding.few)
+  room_left : total ws + length w ≤ 2000
+  room_left = omega (arith, adding.offset_is, adding.few)
 
   codes_left : length ws < 64
   codes_left = omega (arith, adding.number_is, adding.codes_few)
 
-  pub ready_none : l ≤ d → Ready ws (part s l bs) (tree next t.forks t.keys t.heads) g
+  pub ready_none : length w ≤ d → Ready ws w (tree next t.forks t.keys t.heads) g
   ready_none h =
       record {
-        is_tree = tree_more ws (part s l bs) t _ g d adding.is_tree went (grown_none h) room_left codes_left;
+        is_tree = tree_more ws w t _ g d adding.is_tree went (grown_none h) room_left codes_left;
         end_is = end_old h;
       }
 
-  pub ready_fork : (c m n : ℕ) → d < l → c ≡ get_or bs (s + d) 0 → c < 256 → WithBit (get_or t.forks g 0) j m → WithBit (get_or t.keys c 0) j n →
-      Ready ws (part s l bs) (tree next (set t.forks g m) (set t.keys c n) (set t.heads j (s + d + 1))) (s + l)
+  pub ready_fork : (c m n : ℕ) → d < length w → c ≡ get_or w d 0 → c < 256 → WithBit (get_or t.forks g 0) j m → WithBit (get_or t.keys c 0) j n →
+      Ready ws w (tree next (set t.forks g m) (set t.keys c n) (set t.heads j (s + d + 1))) (s + length w)
   ready_fork c m n h is small fork key =
       record {
-        is_tree = tree_more ws (part s l bs) t _ g d adding.is_tree went (grown_fork c m n h is small fork key) room_left codes_left;
+        is_tree = tree_more ws w t _ g d adding.is_tree went (grown_fork c m n h is small fork key) room_left codes_left;
         end_is = end_new h;
       }
 

@@ -22,9 +22,11 @@ use Rattle.starts.proofs.Codes.{code_within}
 use Rattle.starts.proofs.Ends.{reached_known, reached_short, reached_nil, reached_self, reached_next, reached_less, reached_tail}
 use Rattle.starts.proofs.Nearest.{nearest_short}
 use Rattle.starts.proofs.Hits.{hits_none}
+use Rattle.boards.specs.declared.fronts.Fronts.{Fronts as FrontLists}
+use Rattle.boards.specs.declared.tree.Tree.{Tree as TreeLists}
 use Rattle.boards.specs.declared.Watch.{Watch}
 use Rattle.boards.specs.Fronts.{Fronts, common_at, Passed, Stopped, Entering, OnEnter, Enters}
-use Rattle.boards.specs.Tables.{part, TreeLists, OnLinks, ToldLinks}
+use Rattle.boards.specs.Tables.{part, OnLinks, ToldLinks}
 use Rattle.boards.specs.Feed.{stepped, reported, with_byte, feeder, feed}
 use Rattle.boards.specs.Inside.{Advancing, Advanced}
 use Rattle.boards.proofs.Cuts.{part_length, part_more, part_first}
@@ -182,16 +184,16 @@ module _ (ws : List (List ℕ)) (piece : List ℕ) (depth : ℕ) (within : (j : 
         (omega arith)
 
 -- A STRETCH in state 0 at which no code begins
-module _ {ws : List (List ℕ)} {words starts : List ℕ} {depth : ℕ} (f : Fronts ws depth words starts) (piece : List ℕ)
+module _ {ws : List (List ℕ)} {k : FrontLists} (f : Fronts ws k) (piece : List ℕ)
     (bytes : (i : ℕ) → get_or piece i 0 < 256) where
-  stretch_then : (d i j : ℕ) {u : List ℕ} {h m : ℕ} → j ≡ i + d → Passed words piece i j → Advanced ws u piece 0 j h m → Advanced ws u piece 0 i h m
+  stretch_then : (d i j : ℕ) {u : List ℕ} {h m : ℕ} → j ≡ i + d → Passed k.words piece i j → Advanced ws u piece 0 j h m → Advanced ws u piece 0 i h m
   stretch_then zero i j e q a = let at : j ≡ i = omega arith in rw at at a
   stretch_then (suc d) i j e q a =
       let none = q.none i (omega arith) (omega arith) in
       silent_then
-      (silent_one ws piece depth f.within f.some i (omega (arith, f.most, none.0)) (common_none f piece i none.0 bytes none.1)) (omega arith)
+      (silent_one ws piece k.depth f.within f.some i (omega (arith, f.most, none.0)) (common_none f piece i none.0 bytes none.1)) (omega arith)
       (stretch_then d (i + 1) j (omega arith)
-      (record { onward = omega arith; inside = q.inside; none = λ k lo hi. q.none k (omega arith) hi }) a)
+      (record { onward = omega arith; inside = q.inside; none = λ m lo hi. q.none m (omega arith) hi }) a)
 
 -- WHERE THE NEXT BYTES ARE: at i or, from state 0, at the first index where a code begins or fewer than four bytes are left
 pub record At (words piece : List ℕ) (g i p : ℕ) : Type 0 where
@@ -210,14 +212,14 @@ module _ {words piece : List ℕ} {g i p : ℕ} where
   pub at_inside : At words piece g i p → p < length piece
   at_inside a = a.passed.inside
 
-module _ {ws : List (List ℕ)} {u : List ℕ} {t : TreeLists} {links words starts : List ℕ} {depth g : ℕ} {piece : List ℕ} {i : ℕ}
-    (v : Advancing ws u t links words starts depth g piece i) where
+module _ {ws : List (List ℕ)} {u : List ℕ} {t : TreeLists} {links : List ℕ} {k : FrontLists} {g : ℕ} {piece : List ℕ} {i : ℕ}
+    (v : Advancing ws u t links k g piece i) where
   -- A STEP by one byte: what it needs, and where it leads from there
   pub step_needs : OnLinks t links g
   step_needs =
       record { ws = ws; u = u; is_tree = v.is_tree; known_is = v.known_is; state_is = v.state_is; linked = v.linked (length u) }
 
-  module _ {p : ℕ} (a : At words piece g i p) where
+  module _ {p : ℕ} (a : At k.words piece g i p) where
     at_then : {w : List ℕ} {h m : ℕ} → Advanced ws w piece g p h m → Advanced ws w piece g i h m
     at_then b =
         by_eq i p (λ (e : i ≡ p). rw e b)
@@ -235,16 +237,16 @@ module _ {ws : List (List ℕ)} {u : List ℕ} {t : TreeLists} {links words star
       inside : p + 3 < length piece
       inside = ltb-true (p + 3) (length piece) inside-test
 
-      entering : Entering ws words starts depth piece p
+      entering : Entering ws k piece p
       entering = record { fronts = v.fronts; inside = inside; bytes = v.bytes; begins = a.stops rest inside }
 
-      pub enter_needs : OnEnter words starts depth piece p
+      pub enter_needs : OnEnter k piece p
       enter_needs = record { ws = ws; entering = entering }
 
-      enter_bound : p + depth ≤ length piece
+      enter_bound : p + k.depth ≤ length piece
       enter_bound = omega (arith, inside, v.fronts.most)
 
-      pub by_enter : {h : ℕ} → Enters words starts depth piece p h → Advanced ws u piece g i h (p + depth)
+      pub by_enter : {h : ℕ} → Enters k piece p h → Advanced ws u piece g i h (p + k.depth)
       by_enter {h} told =
           let to = told ws entering in
-          at_then (rw rest (read_front ws piece depth v.fronts.within v.fronts.some u p h enter_bound to.0 to.1))
+          at_then (rw rest (read_front ws piece k.depth v.fronts.within v.fronts.some u p h enter_bound to.0 to.1))

@@ -6,8 +6,8 @@ use Prim.Native.Nat.{ℕ, zero, suc, ◌≤◌}
 use native.Mathlib.Omega.{arith}
 use lib.ListN.{length, drop, length-append, length-drop, length-map}
 use lib.Seq.{drop_at}
+use Rattle.runs.specs.Reading.{Refused}
 use Rattle.words.specs.Words.{in_front}
-use Rattle.runs.specs.declared.Ending.TheVariants.{Refused}
 use Rattle.runs.proofs.Feeds.{told_room}
 use Rattle.starts.specs.Hits.{Hit}
 use Rattle.boards.specs.declared.Watch.{Watch}

@@ -9,8 +9,7 @@ use lib.Dec.{ltb}
 use lib.ListN.{length, take, drop}
 use Rattle.words.specs.Words.{in_front}
 use Rattle.words.proofs.Tests.{fails, never_both}
-use Rattle.runs.specs.declared.Ending.TheVariants.{PieceDone}
-use Rattle.runs.specs.Reading.{Fed, fed, ending_refusal, ending_full}
+use Rattle.runs.specs.Reading.{Fed, fed, ending_refusal, ending_full, PieceDone}
 use Rattle.runs.proofs.Feeds.{feed_end, takes_some, spots_before, told_room, ending_none, ending_done, full_says, done_says}
 use Rattle.codes.proofs.Refusals.{none_of, not_refused}
 use Rattle.starts.specs.Hits.{Hit}

@@ -2,15 +2,16 @@
 -- code begins, passing over such bytes, and the state of the first bytes of a code. Assumes nothing.
 use mathlib.Core.Path.{◌≡◌, refl, sym, ap, ◌∙◌}
 use mathlib.Core.Bool.{Bool, true, false, ◌&&◌, ◌||◌, or-false, and-false}
-use mathlib.Core.List.{List}
+use mathlib.Core.List.{List, [], ◌++◌, append-nil}
 use mathlib.Core.Logic.{◌≢◌}
 use Prim.Native.Nat.{ℕ, zero, suc, ◌+◌, ◌*◌, ◌-◌, ◌≤◌, ◌<◌, min}
 use native.Mathlib.Nat.{le_refl, add-zero}
 use native.Mathlib.Omega.{arith}
 use lib.Bits.{bit_and, bit_or, and_zero_l}
 use lib.Dec.{ltb, eqb}
-use lib.ListN.{length, get_or, take, set, length-set, length-take}
-use lib.Seq.{get_or-set_same, get_or-set_other, get_or-take}
+use lib.ListN.{length, get_or, take, drop, set, length-set, length-take, length-drop, length-append, get_or-append, replicate, length-replicate, get_or-replicate, drop_of_length-le}
+use lib.Seq.{get_or-set_same, get_or-set_other, get_or-take, get_or-append_right, length-take-le}
+use borrow.Rule.Slice.PartMut.{put_mid, mid_of, post_of}
 use borrow.Author.Tests.{ltb-true, ltb-false, lt-ltb, le-ltb, eqb-true, eq-eqb, ne_eqb}
 use Rattle.words.specs.Words.{Every, byte}
 use Rattle.words.proofs.Tests.{by_test, by_le, by_eq, never_both, fails, and_left, and_right}
@@ -20,9 +21,11 @@ use Rattle.bits.proofs.Bits.{or_zeros, holds_and, holds_zero, holds_all}
 use Rattle.starts.specs.Starts.{code, offset, state, is_start, known}
 use Rattle.starts.proofs.States.{start_is, is_start_nil, start_longer, known_at, known_first, code_take, state_first}
 use Rattle.starts.proofs.States.{offset_zero, offset_more, offset_within, offset_fits}
+use Rattle.boards.specs.declared.fronts.Fronts.{Fronts as FrontLists}
 use Rattle.boards.specs.Board.{cut}
 use Rattle.boards.specs.Tables.{part, Good}
-use Rattle.boards.specs.Fronts.{Shortest, OnPut, CodePut, OnFronts, AllPut, FilledFrom, Fronts, word_at, pair_at, common_at, Passed}
+use Rattle.boards.specs.Fronts.{Shortest, CodePut, new_fronts, AllPut, Fronts, word_at, pair_at, common_at, Passed}
+use Rattle.boards.proofs.Added.{zeros}
 use Rattle.boards.proofs.Cuts.{part_length, part_at, part_more, cut_length, cut_total, cut_code, cut_code_length}
 
 -- so many first bytes the first i codes have
@@ -57,16 +60,16 @@ ltb_other q j n =
     (λ t. let h = ltb-false q j t in rw t (le-ltb q (j + 1) (omega arith)))
 
 -- ONE CODE's bits, row by row
-pub code_put_none : (bs : List ℕ) (j s : ℕ) (a : List ℕ) → CodePut bs 0 j s a a
-code_put_none bs j s a =
+pub code_put_none : (w : List ℕ) (j : ℕ) (a : List ℕ) → CodePut w 0 j a a
+code_put_none w j a =
     record {
       each = λ q c r _. rw (le-ltb q 0 (omega arith)) (sym (or-false (holds (get_or a (256 * q + c) 0) r)));
       long = refl;
     }
 
-pub code_put_next : {bs : List ℕ} {q j s : ℕ} {a b : List ℕ} → CodePut bs q j s a b → (k r : ℕ) → get_or bs (s + q) 0 < 256 → j < 64 → k < length b →
-    k ≡ 256 * q + get_or bs (s + q) 0 → WithBit (get_or b k 0) (63 - j) r → CodePut bs (q + 1) j s a (set b k r)
-code_put_next {bs} {q} {j} {s} {a} {b} v k r small few room e u =
+pub code_put_next : {w : List ℕ} {q j : ℕ} {a b : List ℕ} → CodePut w q j a b → (k r : ℕ) → get_or w q 0 < 256 → j < 64 → k < length b →
+    k ≡ 256 * q + get_or w q 0 → WithBit (get_or b k 0) (63 - j) r → CodePut w (q + 1) j a (set b k r)
+code_put_next {w} {q} {j} {a} {b} v k r small few room e u =
     record {
       each = λ p c t (h : c < 256).
           let m = 256 * p + c in
@@ -74,18 +77,18 @@ code_put_next {bs} {q} {j} {s} {a} {b} v k r small few room e u =
           by_eq m k
           (λ (here : m ≡ k).
           let row : p ≡ q = omega arith in
-          let at : get_or bs (s + p) 0 ≡ c = rw row (omega arith) in
+          let at : get_or w p 0 ≡ c = rw row (omega arith) in
           ap (λ (n : ℕ). holds (get_or (set b k r) n 0) t) here ∙ ap (λ (n : ℕ). holds n t) (get_or-set_same b k r 0 room) ∙ u.each t
           ∙ ap (λ x. x || (eqb t (63 - j) && ltb (63 - j) 64)) (ap (λ (n : ℕ). holds (get_or b n 0) t) (sym here) ∙ v.each p c t h)
-          ∙ rw (le-ltb p q (omega arith), lt-ltb p (q + 1) (omega arith), eq-eqb (get_or bs (s + p) 0) c at, lt-ltb (63 - j) 64 (omega arith))
+          ∙ rw (le-ltb p q (omega arith), lt-ltb p (q + 1) (omega arith), eq-eqb (get_or w p 0) c at, lt-ltb (63 - j) 64 (omega arith))
           (put_here old (eqb t (63 - j))))
           (λ (other : m ≢ k).
-          let tests : ltb p q && eqb (get_or bs (s + p) 0) c ≡ ltb p (q + 1) && eqb (get_or bs (s + p) 0) c =
+          let tests : ltb p q && eqb (get_or w p 0) c ≡ ltb p (q + 1) && eqb (get_or w p 0) c =
           by_eq p q
           (λ (row : p ≡ q).
-          let byte-other : eqb (get_or bs (s + p) 0) c ≡ false =
-          ne_eqb (get_or bs (s + p) 0) c
-          (λ (f : get_or bs (s + p) 0 ≡ c). let there : get_or bs (s + q) 0 ≡ c = ap (λ (n : ℕ). get_or bs (s + n) 0) (sym row) ∙ f in other (omega arith)) in
+          let byte-other : eqb (get_or w p 0) c ≡ false =
+          ne_eqb (get_or w p 0) c
+          (λ (f : get_or w p 0 ≡ c). let there : get_or w q 0 ≡ c = ap (λ (n : ℕ). get_or w n 0) (sym row) ∙ f in other (omega arith)) in
           rw (byte-other, and-false (ltb p q), and-false (ltb p (q + 1))))
           (λ (row : p ≢ q). rw (ltb_other p q row)) in
           rw (get_or-set_other b k m r 0 other) (v.each p c t h ∙ ap (λ x. old || x && eqb t (63 - j)) tests));
@@ -122,17 +125,17 @@ pub record Putting (ls bs : List ℕ) (depth : ℕ) (words starts : List ℕ) (j
   pub words_long : length words ≡ 1024
   pub starts_long : length starts ≡ 64
 
-pub putting_none : {ls bs words starts : List ℕ} {depth : ℕ} → OnFronts ls bs words starts → Shortest ls depth → Putting ls bs depth words starts 0 0
-putting_none {ls} {bs} p e =
+pub putting_none : {ls bs : List ℕ} {depth : ℕ} → Good ls bs → Shortest ls depth → Putting ls bs depth new_fronts.words new_fronts.starts 0 0
+putting_none {ls} {bs} g e =
     record {
-      good = p.good;
+      good = g;
       shortest = e;
       within = omega arith;
       offset_is = sym (offset_zero (cut ls bs));
-      each = λ q c r _ _ _. rw (p.none (256 * q + c), le-ltb r 0 (omega arith)) (holds_zero (63 - r));
+      each = λ q c r _ _ _. rw (zeros 1024 (256 * q + c), le-ltb r 0 (omega arith)) (holds_zero (63 - r));
       offsets = λ r (h : r < 0). absurd (omega arith);
-      words_long = p.words_long;
-      starts_long = p.starts_long;
+      words_long = length-replicate {A = ℕ} 1024 0;
+      starts_long = length-replicate {A = ℕ} 64 0;
     }
 
 pub putting_all : {ls bs words starts : List ℕ} {depth j s : ℕ} → Putting ls bs depth words starts j s → length ls ≤ j →
@@ -155,12 +158,18 @@ module _ {ls bs words starts : List ℕ} {depth j s : ℕ} (v : Putting ls bs de
     v.good.bytes,
   )
 
-  pub put_needs : OnPut words bs depth j s
-  put_needs =
-      let b = turn_bounds in
-      record { words_long = v.words_long; few = v.shortest.few; number = b.0; inside = omega (arith, b.1, b.2) }
+  -- its first bytes, lent as a slice
+  abbrev front : List ℕ
+  front = take (s + depth - s) (drop s bs)
 
-  pub putting_next : {next : List ℕ} → CodePut bs depth j s words next → Putting ls bs depth next (set starts j s) (j + 1) (s + get_or ls j 0)
+  front_is : front ≡ part s depth bs
+  unfolding part
+  front_is = let whole : s + depth - s ≡ depth = omega arith in rw whole refl
+
+  pub front_size : length front ≡ depth
+  front_size = let b = turn_bounds in rw front_is (part_length s depth bs (omega (arith, b.1, b.2)))
+
+  pub putting_next : {next : List ℕ} → CodePut front (length front) j words next → Putting ls bs depth next (set starts j s) (j + 1) (s + get_or ls j 0)
   putting_next {next} p =
       let ws = cut ls bs in
       let one_more : j + 1 ≡ suc j = omega arith in
@@ -171,7 +180,8 @@ module _ {ls bs words starts : List ℕ} {depth j s : ℕ} (v : Putting ls bs de
         offset_is = rw one_more (omega (arith, v.offset_is, offset_more ws j (omega (arith, cut_length ls bs)), code_long v.good j h));
         each = λ q c r (k : q < depth) (l : c < 256) (m : r < 64).
             let put = eqb (get_or bs (s + q) 0) c in
-            p.each q c (63 - r) l
+            let byte-is : get_or front q 0 ≡ get_or bs (s + q) 0 = rw front_is (part_at s depth bs q k) in
+            rw (front_size, byte-is) at (p.each q c (63 - r) l)
             ∙ ap (λ x. x || (ltb q depth && put) && eqb (63 - r) (63 - j)) (v.each q c r k l m)
             ∙ by_eq r j
             (λ (same : r ≡ j).
@@ -200,37 +210,32 @@ module _ {ls bs words starts : List ℕ} {depth j s : ℕ} (v : Putting ls bs de
       put_own true = refl
       put_own false = refl
 
--- ALL BITS from one word on
-pub record Filling (from c : ℕ) (a b : List ℕ) : Type 0 where
-  pub onward : from ≤ c
-  pub done : (i r : ℕ) → from ≤ i → i < c → r < 64 → holds (get_or b i 0) r ≡ true
-  pub before : (i : ℕ) → i < from → get_or b i 0 ≡ get_or a i 0
+-- ALL BITS from one word on: in a list b that was a
+pub record FilledFrom (from : ℕ) (a b : List ℕ) : Type 0 where
+  pub before : (c : ℕ) → c < from → get_or b c 0 ≡ get_or a c 0
+  pub all : (c r : ℕ) → from ≤ c → c < length b → r < 64 → holds (get_or b c 0) r ≡ true
   pub long : length b ≡ length a
 
-pub filling_none : (from : ℕ) (a : List ℕ) → Filling from from a a
-filling_none from a =
-    record { onward = le_refl from; done = λ i r (l : from ≤ i) (h : i < from). absurd (omega arith); before = λ i h. refl; long = refl }
-
-pub filling_next : {from c : ℕ} {a b : List ℕ} → Filling from c a b → c < length b → Filling from (c + 1) a (set b c 18446744073709551615)
-filling_next {from} {c} {a} {b} v h =
+-- which a list has that is filled there
+pub filled_from : {from n : ℕ} {a m : List ℕ} → length a ≡ n → from ≤ n → m ≡ replicate (length (mid_of from (n - from) a)) 18446744073709551615 → FilledFrom from a (put_mid from (n - from) a m)
+filled_from {from} {n} {a} {m} size fits full =
     let x : ℕ = 18446744073709551615 in
-    record {
-      onward = omega (arith, v.onward);
-      done = λ i r l (m : i < c + 1) n.
-          by_eq i c
-          (λ (same : i ≡ c). rw (same, get_or-set_same b c x 0 h) (holds_all r n))
-          (λ (other : i ≢ c). rw (get_or-set_other b c i x 0 other) (v.done i r l (omega arith) n));
-      before = λ i (l : i < from). get_or-set_other b c i x 0 (λ (e : i ≡ c). absurd (omega (arith, v.onward))) ∙ v.before i l;
-      long = length-set b c x ∙ v.long;
-    }
-
-pub filling_all : {from c : ℕ} {a b : List ℕ} → Filling from c a b → length b ≤ c → FilledFrom from a b
-filling_all v l =
-    record { before = v.before; all = λ i r (m : _ ≤ i) (h : i < _) n. v.done i r m (omega arith) n; long = v.long }
+    let rest : post_of from (n - from) a ≡ [] = drop_of_length-le (drop from a) (omega (arith, length-drop from a)) in
+    let front : length (take from a) ≡ from = length-take-le from a (omega arith) in
+    let part_long : length (mid_of from (n - from) a) ≡ n - from = length-take-le (n - from) (drop from a) (omega (arith, length-drop from a)) in
+    rw (rest, append-nil m, full, part_long)
+    (record {
+      before = λ c h. get_or-append (take from a) (replicate (n - from) x) 0 c (omega arith) ∙ get_or-take from a c 0 h;
+      all = λ c r l h k.
+          let long : length (take from a ++ replicate (n - from) x) ≡ n = omega (arith, length-append (take from a) (replicate (n - from) x), length-replicate (n - from) x) in
+          rw (get_or-append_right (take from a) (replicate (n - from) x) c 0 (omega arith), get_or-replicate (n - from) (c - length (take from a)) x 0 (omega arith))
+          (holds_all r k);
+      long = omega (arith, length-append (take from a) (replicate (n - from) x), length-replicate (n - from) x);
+    })
 
 -- THE WORDS of all codes
 pub fronts_are : {ls bs words next starts : List ℕ} {depth : ℕ} → Good ls bs → Shortest ls depth → AllPut (cut ls bs) depth words starts →
-    FilledFrom (256 * depth) words next → Fronts (cut ls bs) depth next starts
+    FilledFrom (256 * depth) words next → Fronts (cut ls bs) (record { words = next; starts = starts; depth = depth })
 fronts_are {ls} {bs} {words} {next} {starts} {depth} g e p f =
     record {
       put =
@@ -296,33 +301,33 @@ module _ (words piece : List ℕ) (i : ℕ) where
   pair_none e = rw e (and_zero_l (bit_and (at 2) (at 3)))
 
 -- A CODE THAT BEGINS at an index has its bit in common there, and no other code has
-module _ {ws : List (List ℕ)} {words starts : List ℕ} {depth : ℕ} (f : Fronts ws depth words starts) (piece : List ℕ) (i : ℕ)
+module _ {ws : List (List ℕ)} {k : FrontLists} (f : Fronts ws k) (piece : List ℕ) (i : ℕ)
     (inside : i + 3 < length piece) (bytes : (j : ℕ) → get_or piece j 0 < 256) where
-  front_long : length (part i depth piece) ≡ depth
-  front_long = part_length i depth piece (omega (arith, f.most))
+  front_long : length (part i k.depth piece) ≡ k.depth
+  front_long = part_length i k.depth piece (omega (arith, f.most))
 
-  begins_held : (j : ℕ) → j < length ws → is_start (part i depth piece) (code ws j) ≡ true → holds (common_at words piece i) (63 - j) ≡ true
+  begins_held : (j : ℕ) → j < length ws → is_start (part i k.depth piece) (code ws j) ≡ true → holds (common_at k.words piece i) (63 - j) ≡ true
   unfolding word_at byte
   begins_held j h t =
       let w = code ws j in
-      let same : take depth w ≡ part i depth piece = ap (λ (n : ℕ). take n w) (sym front_long) ∙ start_is (part i depth piece) w t in
-      common_held words piece i (63 - j)
+      let same : take k.depth w ≡ part i k.depth piece = ap (λ (n : ℕ). take n w) (sym front_long) ∙ start_is (part i k.depth piece) w t in
+      common_held k.words piece i (63 - j)
       (λ q (l : q < 4).
-      by_le depth q
-      (λ (over : depth ≤ q). f.all q (get_or piece (i + q) 0) j over l (bytes (i + q)) (omega (arith, f.codes_few)))
-      (λ (under : q < depth).
+      by_le k.depth q
+      (λ (over : k.depth ≤ q). f.all q (get_or piece (i + q) 0) j over l (bytes (i + q)) (omega (arith, f.codes_few)))
+      (λ (under : q < k.depth).
       let here : byte w q ≡ get_or piece (i + q) 0 =
-      sym (get_or-take depth w q 0 under) ∙ ap (λ (u : List ℕ). get_or u q 0) same ∙ part_at i depth piece q under in
+      sym (get_or-take k.depth w q 0 under) ∙ ap (λ (u : List ℕ). get_or u q 0) same ∙ part_at i k.depth piece q under in
       f.put.each q (get_or piece (i + q) 0) j under (bytes (i + q)) (omega (arith, f.codes_few))
       ∙ rw (lt-ltb j (length ws) h, eq-eqb (byte w q) (get_or piece (i + q) 0) here)))
 
-  module _ (j : ℕ) (few : j < 64) (e : holds (common_at words piece i) (63 - j) ≡ true) where
-    row_held : (q : ℕ) → q < depth → (j < length ws) × (byte (code ws j) q ≡ get_or piece (i + q) 0)
+  module _ (j : ℕ) (few : j < 64) (e : holds (common_at k.words piece i) (63 - j) ≡ true) where
+    row_held : (q : ℕ) → q < k.depth → (j < length ws) × (byte (code ws j) q ≡ get_or piece (i + q) 0)
     unfolding word_at
     row_held q h =
         let c = get_or piece (i + q) 0 in
         let both : ltb j (length ws) && eqb (byte (code ws j) q) c ≡ true =
-        sym (f.put.each q c j h (bytes (i + q)) few) ∙ held_common words piece i (63 - j) e q (omega (arith, f.most)) in (
+        sym (f.put.each q c j h (bytes (i + q)) few) ∙ held_common k.words piece i (63 - j) e q (omega (arith, f.most)) in (
           ltb-true j (length ws) (and_left (ltb j (length ws)) (eqb (byte (code ws j) q) c) both),
           eqb-true (byte (code ws j) q) c (and_right (ltb j (length ws)) (eqb (byte (code ws j) q) c) both),
         )
@@ -330,7 +335,7 @@ module _ {ws : List (List ℕ)} {words starts : List ℕ} {depth : ℕ} (f : Fro
     held_below : j < length ws
     held_below = (row_held 0 (omega (arith, f.some))).0
 
-    held_begins : (n : ℕ) → n ≤ depth → is_start (part i n piece) (code ws j) ≡ true
+    held_begins : (n : ℕ) → n ≤ k.depth → is_start (part i n piece) (code ws j) ≡ true
     unfolding part
     held_begins zero h = is_start_nil (code ws j)
     held_begins (suc n) h =
@@ -341,47 +346,47 @@ module _ {ws : List (List ℕ)} {words starts : List ℕ} {depth : ℕ} (f : Fro
         (ap (byte (code ws j)) long ∙ (row_held n (omega arith)).1))
 
   -- NO CODE BEGINS where nothing is in common
-  pub common_none : common_at words piece i ≡ 0 → known ws (part i depth piece) ≡ false
+  pub common_none : common_at k.words piece i ≡ 0 → known ws (part i k.depth piece) ≡ false
   common_none e =
-      fails (known ws (part i depth piece))
-      (λ k.
-      let first = known_first ws (part i depth piece) k (omega (arith, front_long, f.some)) in
+      fails (known ws (part i k.depth piece))
+      (λ is_known.
+      let first = known_first ws (part i k.depth piece) is_known (omega (arith, front_long, f.some)) in
       never_both (begins_held first.at first.below first.has) (ap (λ (m : ℕ). holds m (63 - first.at)) e ∙ holds_zero (63 - first.at)))
 
   -- ENTERING: t is the highest bit in common, so code number 63 - t is the first that begins there
-  module _ (some : common_at words piece i ≢ 0) (t : ℕ) (top : Top (common_at words piece i) t) where
-    first_held : holds (common_at words piece i) (63 - (63 - t)) ≡ true
+  module _ (some : common_at k.words piece i ≢ 0) (t : ℕ) (top : Top (common_at k.words piece i) t) where
+    first_held : holds (common_at k.words piece i) (63 - (63 - t)) ≡ true
     first_held = let back : 63 - (63 - t) ≡ t = omega (arith, top.few) in rw back (top.held some)
 
     first_below : 63 - t < length ws
     first_below = held_below (63 - t) (omega arith) first_held
 
-    first_has : is_start (part i depth piece) (code ws (63 - t)) ≡ true
-    first_has = held_begins (63 - t) (omega arith) first_held depth (le_refl depth)
+    first_has : is_start (part i k.depth piece) (code ws (63 - t)) ≡ true
+    first_has = held_begins (63 - t) (omega arith) first_held k.depth (le_refl k.depth)
 
-    none_earlier : known (take (63 - t) ws) (part i depth piece) ≡ false
+    none_earlier : known (take (63 - t) ws) (part i k.depth piece) ≡ false
     none_earlier =
-        fails (known (take (63 - t) ws) (part i depth piece))
-        (λ k.
-        let first = known_first (take (63 - t) ws) (part i depth piece) k (omega (arith, front_long, f.some)) in
+        fails (known (take (63 - t) ws) (part i k.depth piece))
+        (λ is_known.
+        let first = known_first (take (63 - t) ws) (part i k.depth piece) is_known (omega (arith, front_long, f.some)) in
         let q = first.at in
         let earlier : q < 63 - t = omega (arith, first.below, length-take (63 - t) ws) in
         let below : q < length ws = omega (arith, first_below) in
-        let has : is_start (part i depth piece) (code ws q) ≡ true = rw (code_take ws q (63 - t) earlier) at first.has in
+        let has : is_start (part i k.depth piece) (code ws q) ≡ true = rw (code_take ws q (63 - t) earlier) at first.has in
         never_both (begins_held q below has) (top.above (63 - q) (omega arith)))
 
     -- where it begins, and the state
-    pub enter_room : get_or starts (63 - t) 0 ≤ 2000
+    pub enter_room : get_or k.starts (63 - t) 0 ≤ 2000
     enter_room = omega (arith, f.put.offsets (63 - t) first_below, offset_within ws (63 - t), f.few)
 
-    pub enter_state : (known ws (part i depth piece) ≡ true) × (get_or starts (63 - t) 0 + depth ≡ state ws (part i depth piece))
+    pub enter_state : (known ws (part i k.depth piece) ≡ true) × (get_or k.starts (63 - t) 0 + k.depth ≡ state ws (part i k.depth piece))
     enter_state = (
-      known_at ws (part i depth piece) (63 - t) first_below first_has,
+      known_at ws (part i k.depth piece) (63 - t) first_below first_has,
       omega (
         arith,
         front_long,
         f.put.offsets (63 - t) first_below,
-        state_first ws (63 - t) (part i depth piece) first_below first_has none_earlier,
+        state_first ws (63 - t) (part i k.depth piece) first_below first_has none_earlier,
       ),
     )
 

@@ -17,7 +17,8 @@ use Rattle.bits.proofs.Bits.{holds_zero}
 use Rattle.starts.specs.Starts.{code, is_start, known, total, state}
 use Rattle.starts.proofs.States.{start_is, start_test, start_fits, is_start_take, start_inside, start_front, start_byte, start_longer}
 use Rattle.starts.proofs.States.{known_at, known_first, known_front, known_more, known_kept, state_within, state_one, state_kept, state_new, total_more}
-use Rattle.boards.specs.Tables.{TreeLists, Tree, branches_off, Went}
+use Rattle.boards.specs.declared.tree.Tree.{Tree as TreeLists}
+use Rattle.boards.specs.Tables.{Tree, branches_off, Went}
 
 -- SHORTER: what a known start begins with is known
 pub known_shorter : (ws : List (List ℕ)) (v : List ℕ) (n : ℕ) → n ≤ length v → known ws v ≡ true → known ws (take n v) ≡ true

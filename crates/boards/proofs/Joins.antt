@@ -12,13 +12,14 @@ use lib.Seq.{take-append_seam}
 use borrow.Author.Tests.{eq-eqb, ne_eqb, le-ltb, ltb-false, not-false}
 use Rattle.words.specs.Words.{member, in_front}
 use Rattle.words.proofs.Tests.{and_left, and_right, and_both, or_none}
+use Rattle.runs.specs.declared.Refusal.{Refusal}
+use Rattle.runs.specs.Refusals.{refusal_number}
 use Rattle.runs.specs.Calls.{Outcome}
-use Rattle.codes.specs.declared.Answer.{Answer}
-use Rattle.codes.specs.declared.Answer.TheVariants.{Refused}
-use Rattle.codes.specs.Refusals.{refused_if, first_refusal}
+use Rattle.runs.proofs.Refusals.{number_some}
+use Rattle.codes.specs.Refusals.{refused_if, first_refusal, Answer, Refused}
 use Rattle.codes.specs.Codes.{longest_code, has_control}
 use Rattle.codes.specs.Promise.{AnswersTold}
-use Rattle.codes.proofs.Refusals.{answered_refusal, answers_told}
+use Rattle.codes.proofs.Refusals.{not_refused, answered_refusal, answers_told}
 use Rattle.starts.specs.Starts.{code, total, is_code, index, number}
 use Rattle.starts.specs.Hits.{Hit, places_of}
 use Rattle.starts.proofs.Codes.{index_below, code_index, is_code_at, number_code, number_kept}
@@ -29,12 +30,12 @@ use Rattle.boards.specs.Board.{cut, bytes_of, most_codes, most_bytes, some_above
 use Rattle.boards.specs.Board.{board_room, accepted, board, named, begins}
 use Rattle.boards.specs.Entry.{prepare_refusal, prepare_answer, prepare_buffer, Lent, feed_run}
 use Rattle.boards.specs.Join.{lacking, joined, joined_named, join_refusal, join_answer, join_buffer, JoinSays}
-use Rattle.boards.specs.Inside.{OnNamed, Prepares}
+use Rattle.boards.specs.Joined.{Prepares}
 use Rattle.boards.specs.Promise.{Clean, BoardSized, BoardsAccepted, PrepareMakes}
 use Rattle.boards.specs.Runs.{RunFound, EntriesFind}
 use Rattle.boards.specs.Joins.{Boards, Few, JoinedCodes, JoiningPrepares, BoardsJoined, JoiningRefused, JoiningAnswers}
 use Rattle.boards.specs.Joins.{JoinedItself, JoinedFinds}
-use Rattle.boards.proofs.Naming.{codes_named}
+use Rattle.boards.proofs.Naming.{NamedBy, codes_named}
 use Rattle.boards.proofs.Rows.{length_bytes}
 use Rattle.boards.proofs.Boards.{sum_lengths, bytes_cut, board_named, board_begins, board_sized, begins_accepted, begins_front, prepare_makes}
 use Rattle.boards.proofs.Accepting.{decides_not, decides_then, decides_fails, decides_number, below_test, above_test}
@@ -133,6 +134,15 @@ boards_joined ws vs rest more c p q =
     let same = joining_prepares (board ws ++ rest) (board vs ++ more) c (board_begins ws rest ∙ p) (board_begins vs more ∙ q) in
     (rw (n, m) at same.2, rw (n, m) at same.3)
 
+-- A BUFFER READ is refused exactly if it begins with no board
+pub read_refused : (s : Refusal) (t : Bool) → refusal_number s ≡ refused_if 4 (not t) → (t ≡ false) × (refusal_number s ≡ 4)
+unfolding refused_if
+read_refused s false e = (refl, e)
+read_refused s true e = absurd (number_some s e)
+
+pub read_passed : (t : Bool) → 0 ≡ refused_if 4 (not t) → t ≡ true
+read_passed t e = not-false t (not_refused 3 (not t) (sym e))
+
 -- THE ENTRY POINT: a buffer that begins with no board is refused; otherwise the codes that the two name are prepared
 module _ (a b x : List ℕ) where
   pub says_no_board : begins a && begins b ≡ false → JoinSays a b (Refused 4) x x
@@ -141,7 +151,7 @@ module _ (a b x : List ℕ) where
       let n : join_refusal a b (length x) ≡ 4 = rw e in
       record { answers = rw n (sym (answered_refusal 4 (length (board (joined_named a b))) (λ z. omega arith))); leaves = rw n refl }
 
-  pub says_joined : {ls bs ms cs : List ℕ} → OnNamed a ls bs → OnNamed b ms cs → begins a ≡ true → begins b ≡ true → {r : Answer} {y : List ℕ} →
+  pub says_joined : {ls bs ms cs : List ℕ} → NamedBy a ls bs → NamedBy b ms cs → begins a ≡ true → begins b ≡ true → {r : Answer} {y : List ℕ} →
       Prepares (joined (cut ls bs) (cut ms cs)) r x y → JoinSays a b r x y
   unfolding JoiningPrepares
   says_joined m n p q s = ((joining_prepares a b x p q).4 _ _).1 (rw (codes_named m, codes_named n) at s)

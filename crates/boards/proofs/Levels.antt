@@ -4,10 +4,10 @@ use mathlib.Core.Path.{◌≡◌, refl, sym, ap, ◌∙◌}
 use mathlib.Core.Bool.{Bool, true, false, ◌&&◌, ◌||◌, not, and-true, and-false, or-false}
 use mathlib.Core.List.{List, [], ◌∷◌, ◌++◌}
 use mathlib.Core.Logic.{◌≢◌}
-use Prim.Native.Nat.{ℕ, suc, ◌+◌, ◌-◌, ◌^◌, ◌≤◌, ◌<◌}
+use Prim.Native.Nat.{ℕ, suc, ◌+◌, ◌^◌, ◌≤◌, ◌<◌}
 use native.Mathlib.Omega.{arith}
 use lib.Dec.{ltb, eqb}
-use lib.ListN.{length, get_or, set, take, replicate, length-set, length-take, length-replicate, get_or-replicate}
+use lib.ListN.{length, get_or, set, take, replicate, length-set, length-take, get_or-replicate}
 use lib.Seq.{take-suc, length-take-le, get_or-set_same, get_or-set_other}
 use borrow.Author.Tests.{ltb-true, lt-ltb, le-ltb, eq-eqb, ne_eqb}
 use Rattle.words.proofs.Tests.{by_test, by_le, by_eq, never_both, and_left, and_right, and_both}
@@ -20,11 +20,13 @@ use Rattle.starts.proofs.States.{First, known_first, known_at, known_code, start
 use Rattle.starts.proofs.States.{state_nil, state_unshared, offset_fits}
 use Rattle.starts.proofs.Codes.{number_few}
 use Rattle.starts.proofs.Ends.{fallback_known, fallback_shorter}
+use Rattle.boards.specs.declared.links.Links.{Links as LinkLists}
+use Rattle.boards.specs.declared.tree.Tree.{Tree as TreeLists}
 use Rattle.boards.specs.Board.{cut}
-use Rattle.boards.specs.Tables.{Good, TreeLists, Tree, LinkLists, Offsets, Done, Blank, Next, put_byte}
+use Rattle.boards.specs.Tables.{Good, Tree, Offsets, Done, Blank, Next, put_byte}
 use Rattle.boards.specs.Tables.{Leveling, OnLevel, FirstBits, AllLinked, OnLevels}
 use Rattle.boards.proofs.Cuts.{part_at, cut_length, cut_total, cut_code, cut_code_length}
-use Rattle.boards.proofs.Puts.{AsLong, as_long_same, as_long_then, Put, put_byte_is}
+use Rattle.boards.proofs.Puts.{Put, put_byte_is}
 
 -- ONE BIT TAKEN from a word, its highest
 record Taken (m r j : ℕ) : Type 0 where
@@ -59,7 +61,7 @@ first_known : (ws : List (List ℕ)) (u : List ℕ) → First ws u → known ws 
 first_known ws u f = known_at ws u f.at f.below f.has
 
 -- WITHIN A LEVEL: of the starts of d + 1 bytes those have their links whose first code is not left; the others still have their number
-pub record Linking (ls bs starts : List ℕ) (t : TreeLists) (k₀ k : LinkLists) (at₀ at : List ℕ) (left rest d : ℕ) : Type 0 where
+pub record Linking (ls bs starts : List ℕ) (t : TreeLists) (k : LinkLists) (at : List ℕ) (left rest d : ℕ) : Type 0 where
   pub good : Good ls bs
   pub is_tree : Tree (cut ls bs) t
   pub offsets : Offsets (cut ls bs) starts
@@ -76,8 +78,6 @@ pub record Linking (ls bs starts : List ℕ) (t : TreeLists) (k₀ k : LinkLists
   pub behind : (q : ℕ) → q < length (cut ls bs) → d < length (code (cut ls bs) q) → holds left q ≡ false →
       get_or at q 0 ≡ state (cut ls bs) (take (suc d) (code (cut ls bs) q))
   pub at_long : 64 ≤ length at
-  pub at_same : length at ≡ length at₀
-  pub same : AsLong k₀ k
 
 -- two comparisons in one test
 both_less : (a b c d : ℕ) → ltb a b && ltb c d ≡ true → (a < b) × (c < d)
@@ -105,15 +105,15 @@ none_rests false true f = absurd (never_both (f refl) refl)
 none_rests false false f = refl
 
 pub linking_start : {ls bs starts : List ℕ} {t : TreeLists} {k : LinkLists} {at : List ℕ} {live d : ℕ} →
-    OnLevel ls bs starts t k at live d → Linking ls bs starts t k k at at live 0 d
-linking_start {ls} {bs} {starts} {t} {k} {at} {live} {d} p =
+    Good ls bs → 64 ≤ length starts → 64 ≤ length at → OnLevel (cut ls bs) starts t k at live d → Linking ls bs starts t k at live 0 d
+linking_start {ls} {bs} {starts} {t} {k} {at} {live} {d} good starts_long at_long p =
     let l = p.leveling in
     let ws = cut ls bs in
     record {
-      good = p.good;
+      good = good;
       is_tree = p.is_tree;
       offsets = p.offsets;
-      starts_long = p.starts_long;
+      starts_long = starts_long;
       done = l.level.done;
       linked = λ u e f n. absurd (never_both (is_live l f.at f.below (omega (arith, first_long ws u f))) n);
       unlinked = λ u e f n. l.level.left u (first_known ws u f) (omega arith);
@@ -127,14 +127,12 @@ linking_start {ls} {bs} {starts} {t} {k} {at} {live} {d} p =
           (λ e. let less = both_less q (length ws) (suc d) (length (code ws q)) e in is_live l q less.0 (omega (arith, less.1)));
       before = λ q h. l.states q (live_is l q h).0 (live_is l q h).1;
       behind = λ q h m n. absurd (never_both (is_live l q h m) n);
-      at_long = l.at_long;
-      at_same = refl;
-      same = as_long_same k;
+      at_long = at_long;
     }
 
 -- ONE CODE, the last of those left, number j
-module _ {ls bs starts : List ℕ} {t : TreeLists} {k₀ k : LinkLists} {at₀ at : List ℕ} {left rest d j : ℕ}
-    (p : Linking ls bs starts t k₀ k at₀ at left rest d) (some : left ≢ 0) (top : Top left j) where
+module _ {ls bs starts : List ℕ} {t : TreeLists} {k : LinkLists} {at : List ℕ} {left rest d j : ℕ}
+    (p : Linking ls bs starts t k at left rest d) (some : left ≢ 0) (top : Top left j) where
   abbrev ws : List (List ℕ)
   ws = cut ls bs
 
@@ -261,7 +259,7 @@ module _ {ls bs starts : List ℕ} {t : TreeLists} {k₀ k : LinkLists} {at₀ a
 
   linking_turn : (left' rest' r : ℕ) (k' : LinkLists) → Taken left left' j →
       ((q : ℕ) → holds rest' q ≡ holds rest q || (eqb q j && ltb (suc d) (length (code ws j)))) → Result k' r →
-      Linking ls bs starts t k₀ k' at₀ (set at j r) left' rest' d
+      Linking ls bs starts t k' (set at j r) left' rest' d
   linking_turn left' rest' r k' x rest-is result =
       let put : Put ws k k' (suc s) = rw (result.1, longer_start) put_here in
       let r-is : r ≡ state ws v = result.0 ∙ ap (state ws) longer_start in
@@ -306,28 +304,26 @@ module _ {ls bs starts : List ℕ} {t : TreeLists} {k₀ k : LinkLists} {at₀ a
             (λ (e : q ≡ j). rw e (get_or-set_same at j r 0 (omega (arith, linking_number.1, p.at_long)) ∙ r-is))
             (λ (n : q ≢ j). get_or-set_other at j q r 0 n ∙ p.behind q h l (sym (x.others q n) ∙ m));
         at_long = omega (arith, length-set at j r, p.at_long);
-        at_same = length-set at j r ∙ p.at_same;
-        same = as_long_then p.same put.long;
       }
 
   -- its bit is put among the rest if it has another byte
   pub linking_more : (left' rest' r : ℕ) (k' : LinkLists) → WithoutTop left left' → suc d < get_or ls j 0 → WithBit rest j rest' → Result k' r →
-      Linking ls bs starts t k₀ k' at₀ (set at j r) left' rest' d
+      Linking ls bs starts t k' (set at j r) left' rest' d
   linking_more left' rest' r k' w long more =
       linking_turn left' rest' r k' (taken_top top w)
       (λ q.
       rw (lt-ltb (suc d) (length (code ws j)) (omega (arith, linking_length))) (rw (lt-ltb j 64 linking_number.1) at (more.each q)))
 
   pub linking_last : (left' r : ℕ) (k' : LinkLists) → WithoutTop left left' → get_or ls j 0 ≤ suc d → Result k' r →
-      Linking ls bs starts t k₀ k' at₀ (set at j r) left' rest d
+      Linking ls bs starts t k' (set at j r) left' rest d
   linking_last left' r k' w short =
       linking_turn left' rest r k' (taken_top top w)
       (λ q. rw (le-ltb (suc d) (length (code ws j)) (omega (arith, linking_length)), and-false, or-false) refl)
 
 -- AT THE END none is left
-pub linking_end : {ls bs starts : List ℕ} {t : TreeLists} {k₀ k : LinkLists} {at₀ at : List ℕ} {left rest d : ℕ} →
-    Linking ls bs starts t k₀ k at₀ at left rest d → left ≡ 0 → Leveling (cut ls bs) k at rest (suc d)
-linking_end {ls} {bs} {starts} {t} {k₀} {k} {at₀} {at} {left} {rest} {d} p z =
+pub linking_end : {ls bs starts : List ℕ} {t : TreeLists} {k : LinkLists} {at : List ℕ} {left rest d : ℕ} →
+    Linking ls bs starts t k at left rest d → left ≡ 0 → Leveling (cut ls bs) k at rest (suc d)
+linking_end {ls} {bs} {starts} {t} {k} {at} {left} {rest} {d} p z =
     let ws = cut ls bs in
     let none : (q : ℕ) → holds left q ≡ false = λ q. rw z (holds_zero q) in
     record {
@@ -342,30 +338,27 @@ linking_end {ls} {bs} {starts} {t} {k₀} {k} {at₀} {at} {left} {rest} {d} p z
           };
       states = λ q h l. p.behind q h (omega arith) (none q);
       lives = λ q. p.rests q ∙ ap (λ (b : Bool). not b && (ltb q (length ws) && ltb (suc d) (length (code ws q)))) (none q);
-      at_long = p.at_long;
     }
 
 -- LEVEL BY LEVEL
-pub record Climbing (ls bs starts : List ℕ) (t : TreeLists) (k₀ k : LinkLists) (at : List ℕ) (live d : ℕ) : Type 0 where
-  pub on : OnLevel ls bs starts t k at live d
-  pub same : AsLong k₀ k
-  pub at_is : length at ≡ 64
+pub record Climbing (ls bs starts : List ℕ) (t : TreeLists) (k : LinkLists) (at : List ℕ) (live d : ℕ) : Type 0 where
+  pub good : Good ls bs
+  pub on : OnLevel (cut ls bs) starts t k at live d
   pub fits : live < 2 ^ 64
 
 -- at first the states of all codes are that of the empty start, and all are live
-pub climbing_start : {ls bs starts : List ℕ} {t : TreeLists} {k : LinkLists} (live : ℕ) → OnLevels ls bs starts t k →
-    FirstBits (length ls) live → live < 2 ^ 64 → Climbing ls bs starts t k k (replicate 64 0) live 0
-climbing_start {ls} {bs} {starts} {t} {k} live p bits fits =
+pub climbing_start : {ls bs starts : List ℕ} {t : TreeLists} {k : LinkLists} (live : ℕ) → Good ls bs → OnLevels (cut ls bs) starts t k →
+    FirstBits (length ls) live → live < 2 ^ 64 → Climbing ls bs starts t k (replicate 64 0) live 0
+climbing_start {ls} {bs} {starts} {t} {k} live good p bits fits =
     let ws = cut ls bs in
     let filled : (q : ℕ) → q < length ls → 0 < length (code ws q) =
-    λ q h. omega (arith, every_at (λ l. 1 ≤ l) ls q p.good.filled h, cut_code_length ls bs q (omega (arith, p.good.sums)) h) in
+    λ q h. omega (arith, every_at (λ l. 1 ≤ l) ls q good.filled h, cut_code_length ls bs q (omega (arith, good.sums)) h) in
     record {
+      good = good;
       on =
           record {
-            good = p.good;
             is_tree = p.is_tree;
             offsets = p.offsets;
-            starts_long = p.starts_long;
             leveling =
                 record {
                   level = p.level;
@@ -376,15 +369,12 @@ climbing_start {ls} {bs} {starts} {t} {k} live p bits fits =
                       (by_le (length ls) q
                       (λ (h : length ls ≤ q). rw (le-ltb q (length ls) h) refl)
                       (λ (h : q < length ls). rw (lt-ltb q (length ls) h, lt-ltb 0 (length (code ws q)) (filled q h)) refl));
-                  at_long = omega (arith, length-replicate {A = ℕ} 64 0);
                 };
           };
-      same = as_long_same k;
-      at_is = length-replicate {A = ℕ} 64 0;
       fits = fits;
     }
 
-module _ {ls bs starts : List ℕ} {t : TreeLists} {k₀ k : LinkLists} {at : List ℕ} {live d : ℕ} (p : Climbing ls bs starts t k₀ k at live d) where
+module _ {ls bs starts : List ℕ} {t : TreeLists} {k : LinkLists} {at : List ℕ} {live d : ℕ} (p : Climbing ls bs starts t k at live d) where
   -- while a code is live, the depth is below its length
   pub climbing_below : live ≢ 0 → d < 2000
   climbing_below some =
@@ -398,21 +388,17 @@ module _ {ls bs starts : List ℕ} {t : TreeLists} {k₀ k : LinkLists} {at : Li
       (λ e. e)))))
       (λ h. h)
 
-  pub climbing_turn : (k' : LinkLists) (at' : List ℕ) (live' : ℕ) → Leveling (cut ls bs) k' at' live' (suc d) → AsLong k k' →
-      length at' ≡ length at → live' < 2 ^ 64 →
-      Climbing ls bs starts t k₀ k' at' live' (suc d)
-  climbing_turn k' at' live' l sizes e fits =
+  pub climbing_turn : (k' : LinkLists) (at' : List ℕ) (live' : ℕ) → Leveling (cut ls bs) k' at' live' (suc d) → live' < 2 ^ 64 →
+      Climbing ls bs starts t k' at' live' (suc d)
+  climbing_turn k' at' live' l fits =
       record {
+        good = p.good;
         on =
             record {
-              good = p.on.good;
               is_tree = p.on.is_tree;
               offsets = p.on.offsets;
-              starts_long = p.on.starts_long;
               leveling = l;
             };
-        same = as_long_then p.same sizes;
-        at_is = e ∙ p.at_is;
         fits = fits;
       }
 

@@ -15,7 +15,9 @@ use Rattle.bits.proofs.Bits.{holds_zero}
 use Rattle.starts.specs.Starts.{known, state, reached, fallback}
 use Rattle.starts.proofs.States.{known_nil, known_front, state_nil, state_some, state_within, state_one}
 use Rattle.starts.proofs.Ends.{fallback_is, fallback_known, fallback_shorter, fallback_one, fallback_next, step_known, step_back, step_none}
-use Rattle.boards.specs.Tables.{TreeLists, Tree, child_of, Linked, LinkLists, tables, OnState, put_state, Next, put_byte, FirstBits}
+use Rattle.boards.specs.declared.links.Links.{Links as LinkLists}
+use Rattle.boards.specs.declared.tree.Tree.{Tree as TreeLists}
+use Rattle.boards.specs.Tables.{Tree, child_of, Linked, tables, OnState, put_state, Next, put_byte, FirstBits}
 
 -- BITS: none, and one more above those that are set
 pub first_bits_none : FirstBits 0 0

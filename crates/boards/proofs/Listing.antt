@@ -1,18 +1,24 @@
 -- The lengths and the bytes of codes handed over: the loops over the lengths, the refusals in their order, and what is known where none comes up.
 -- Assumes nothing.
-use mathlib.Core.Path.{◌≡◌, refl, sym, ◌∙◌}
-use mathlib.Core.Bool.{Bool, true, false, ◌||◌, not, or-true, or-false}
+use mathlib.Core.Path.{◌≡◌, refl, sym, ap, ◌∙◌}
+use mathlib.Core.Bool.{Bool, true, false, ◌||◌, not, or-true}
 use mathlib.Core.List.{List, [], ◌∷◌}
 use mathlib.Core.Logic.{◌≢◌}
-use Prim.Native.Nat.{ℕ, ◌+◌, ◌*◌, ◌≤◌, ◌<◌}
+use Prim.Native.Nat.{ℕ, zero, suc, ◌+◌, ◌*◌, ◌≤◌, ◌<◌}
 use native.Mathlib.Numerals.{add-one}
 use native.Mathlib.Omega.{arith}
 use lib.Dec.{ltb, eqb}
 use lib.ListN.{length, get_or, drop, drop_of_length-le}
 use lib.Seq.{drop-cons}
 use borrow.Author.Tests.{eq-eqb, ne_eqb, lt-ltb, le-ltb, eqb-true, eqb-false, ltb-false, not-false}
+use Rattle.std.specs.Prelude.{Result, Ok, Err, OnOk}
+use Rattle.std.specs.Result.{is_err}
+use Rattle.std.specs.List.{list_any}
+use Rattle.runs.specs.declared.Refusal.{Refusal}
+use Rattle.runs.specs.Refusals.{refusal_of, refusal_number}
+use Rattle.runs.proofs.Refusals.{number_some}
 use Rattle.words.specs.Words.{member, Every}
-use Rattle.words.proofs.Tests.{or_none}
+use Rattle.words.proofs.Tests.{never_both, or_none}
 use Rattle.words.proofs.Lists.{every_map}
 use Rattle.automaton.specs.Costs.{sum}
 use Rattle.codes.specs.Codes.{longest_code, has_control}
@@ -21,7 +27,6 @@ use Rattle.codes.proofs.Refusals.{none_of, not_refused, first_here}
 use Rattle.starts.specs.Starts.{twice}
 use Rattle.boards.specs.Board.{cut, most_codes, most_bytes, some_above, no_board, list_refusal, codes_refusal}
 use Rattle.boards.specs.Tables.{Good}
-use Rattle.boards.specs.Written.{Small}
 
 -- WHETHER SOME LENGTH passes a test
 pub record Some (t : ℕ → Bool) (any : List ℕ → Bool) : Type 0 where
@@ -36,23 +41,22 @@ pub long_some : (limit : ℕ) → Some (ltb limit) (some_above limit)
 unfolding some_above
 long_some k = record { none = refl; more = λ l ls. refl }
 
--- THE LOOP: whether one before i does, or one from i on, is whether one does
-abbrev pub Looked : (any : List ℕ → Bool) → (ls : List ℕ) → (i : ℕ) → (found : Bool) → Type 0
-Looked any ls i f = f || any (drop i ls) ≡ any ls
+-- as the library's tests tell it: where one of them does, and where none does
+module _ {t : ℕ → Bool} {any : List ℕ → Bool} (a : Some t any) where
+  pub any_is : (ls : List ℕ) → list_any t ls ≡ any ls
+  any_is [] = sym a.none
+  any_is (l ∷ ls) = ap (λ (x : Bool). t l || x) (any_is ls) ∙ sym (a.more l ls)
 
-module _ {t : ℕ → Bool} {any : List ℕ → Bool} (a : Some t any) (ls : List ℕ) (i : ℕ) where
-  next : i < length ls → any (drop i ls) ≡ t (get_or ls i 0) || any (drop (i + 1) ls)
-  next h = rw (drop-cons ls i 0 h, a.more (get_or ls i 0), add-one i) refl
+  pub any_at : (ls : List ℕ) (k : ℕ) → k < length ls → t (get_or ls k 0) ≡ true → any ls ≡ true
+  any_at [] k h e = absurd (omega arith)
+  any_at (l ∷ ls) zero h e = a.more l ls ∙ rw e refl
+  any_at (l ∷ ls) (suc k) h e = a.more l ls ∙ rw (any_at ls k (omega arith) e) (or-true (t l))
 
-  module _ (f : Bool) (s : Looked any ls i f) where
-    pub look_found : i < length ls → t (get_or ls i 0) ≡ true → Looked any ls (i + 1) true
-    look_found h e = rw (next h, e, or-true f) at s
-
-    pub look_next : i < length ls → t (get_or ls i 0) ≡ false → Looked any ls (i + 1) f
-    look_next h e = rw (next h, e) at s
-
-    pub look_end : length ls ≤ i → f ≡ any ls
-    look_end h = rw (drop_of_length-le ls h, a.none, or-false f) at s
+  pub any_none : (ls : List ℕ) → ((k : ℕ) → k < length ls → t (get_or ls k 0) ≡ false) → any ls ≡ false
+  any_none [] f = a.none
+  any_none (l ∷ ls) f =
+      let none = any_none ls (λ k h. f (suc k) (omega arith)) in
+      a.more l ls ∙ rw (f 0 (omega arith), none) refl
 
 -- where none does, none of them does
 module _ {t : ℕ → Bool} {any : List ℕ → Bool} (a : Some t any) where
@@ -99,6 +103,32 @@ module _ (ls bs : List ℕ) where
       pub by_sum : length bs ≤ most_bytes → (n : ℕ) → n ≡ sum ls → not (eqb n (length bs)) ≡ no_board ls bs
       unfolding no_board
       by_sum h n e = rw (e, ne_eqb (length ls) 0 some, le-ltb most_codes (length ls) codes, le-ltb most_bytes (length bs) h)
+
+-- AN ANSWER is an error exactly if it has a refusal
+pub err_refused : {A : Type 0} (r : Result A Refusal) → is_err r ≡ true → refusal_of r ≢ 0
+err_refused (Ok v) e = absurd (never_both e refl)
+err_refused (Err s) e = number_some s
+
+pub ok_passed : {A : Type 0} (r : Result A Refusal) → is_err r ≡ false → 0 ≡ refusal_of r
+ok_passed (Ok v) e = refl
+ok_passed (Err s) e = absurd (never_both refl e)
+
+-- the refusal of building tells whether a code stands there twice
+pub twice_refused : (s : Refusal) (t : Bool) → refusal_number s ≡ refused_if 11 t → (t ≡ true) × (refusal_number s ≡ 11)
+unfolding refused_if
+twice_refused s true e = (refl, e)
+twice_refused s false e = absurd (number_some s e)
+
+pub once_passed : (t : Bool) → 0 ≡ refused_if 11 t → t ≡ false
+once_passed t e = not_refused 10 t (sym e)
+
+pub err_twice : {A : Type 0} (r : Result A Refusal) (t : Bool) → is_err r ≡ true → refusal_of r ≡ refused_if 11 t → t ≡ true
+err_twice (Ok v) t e f = absurd (never_both e refl)
+err_twice (Err s) t e f = (twice_refused s t f).0
+
+pub on_ok : {A : Type 0} {P : Type 0} (r : Result A Refusal) → is_err r ≡ false → OnOk r P → P
+on_ok (Ok v) e p = p
+on_ok (Err s) e p = absurd (never_both refl e)
 
 -- THE REFUSALS of lengths and bytes, each after those before it passed
 module _ (ls bs : List ℕ) where
@@ -147,9 +177,6 @@ module _ (ls bs : List ℕ) where
           bytes = ltb-false most_bytes (length bs) c.0;
           filled = every_map ls (λ l h. let n : l ≢ 0 = eqb-false l 0 h in omega arith) (none_every empty_some ls passed.0);
         }
-
-    pub small_of : Small ls
-    small_of = every_map ls (λ l h. omega (arith, ltb-false longest_code l h)) (none_every (long_some longest_code) ls passed.1)
 
 -- and the last one, 11
 module _ (ls bs : List ℕ) where

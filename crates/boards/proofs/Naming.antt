@@ -7,21 +7,21 @@ use Prim.Native.Nat.{ℕ, zero, suc, ◌+◌, ◌*◌, ◌-◌, ◌≤◌, ◌<�
 use native.Mathlib.Numerals.{add-one}
 use native.Mathlib.Omega.{arith}
 use lib.Dec.{leb, eqb}
-use lib.ListN.{length, get_or, take, drop, set, length-set, length-take, length-drop}
+use lib.ListN.{length, get_or, take, drop, set, length-take, length-drop}
 use lib.Seq.{take-suc-set, get_or-drop, take-append_seam}
 use borrow.Author.Tests.{eqb-true, le-leb, le-ltb}
 use Rattle.words.specs.Words.{Every, same, in_front}
 use Rattle.words.proofs.Tests.{never_both, fails, and_left}
 use Rattle.words.proofs.Lists.{in_front_long}
 use Rattle.automaton.specs.Costs.{sum}
-use Rattle.codes.specs.declared.Answer.{Answer}
-use Rattle.codes.specs.Refusals.{refused_if, first_refusal, answer_refusal, answer_value}
+use Rattle.codes.specs.Refusals.{refused_if, first_refusal, answer_refusal, answer_value, Answer}
 use Rattle.codes.specs.Promise.{AnswersTold}
 use Rattle.codes.proofs.Refusals.{none_of, answers_told}
 use Rattle.starts.specs.Starts.{twice}
+use Rattle.boards.specs.declared.given.Codes.{Codes}
 use Rattle.boards.specs.Board.{cut, list_refusal, codes_refusal, board_room, board, pairs_of, named_lengths, named_bytes, named, begins}
 use Rattle.boards.specs.Entry.{prepare_refusal, prepare_answer, prepare_buffer, PrepareSays}
-use Rattle.boards.specs.Inside.{LengthsRead, OnLengthsOf, Names, CodesEnd, CodesRead, BoardRead, OnNamed}
+use Rattle.boards.specs.Naming.{LengthsRead, Names, OnNamed}
 use Rattle.boards.proofs.Listing.{good_of, codes_none, none_listed}
 
 -- THE LENGTHS, one after the other: one more
@@ -36,26 +36,17 @@ pairs_snoc (suc k) bs =
     ∙ rw (get_or-drop 2 bs (2 * k) 0, get_or-drop 2 bs (2 * k + 1) 0, a, b) refl)
 
 -- THE LOOP: the first i are read
-pub lengths_start : (board a : List ℕ) → LengthsRead board 0 a a
+pub lengths_start : (board a : List ℕ) → LengthsRead board 0 a
 unfolding pairs_of
-lengths_start board a = record { front = refl; long = refl }
+lengths_start board a = record { front = refl }
 
-pub lengths_turn : (board a b : List ℕ) (i v : ℕ) → i < length a → v ≡ 256 * get_or board (1 + 2 * i) 0 + get_or board (2 + 2 * i) 0 →
-    LengthsRead board i a b → LengthsRead board (i + 1) a (set b i v)
-lengths_turn board a b i v h e s =
+pub lengths_turn : {board b : List ℕ} {i v : ℕ} → i < length b → v ≡ 256 * get_or board (1 + 2 * i) 0 + get_or board (2 + 2 * i) 0 →
+    LengthsRead board i b → LengthsRead board (i + 1) (set b i v)
+lengths_turn {board} {b} {i} {v} h e s =
     let at : 1 + (2 * i + 1) ≡ 2 + 2 * i = omega arith in
     let more : v ≡ 256 * get_or (drop 1 board) (2 * i) 0 + get_or (drop 1 board) (2 * i + 1) 0 =
     rw (get_or-drop 1 board (2 * i) 0, get_or-drop 1 board (2 * i + 1) 0, at) e in
-    record {
-      front =
-          rw (add-one i)
-          (take-suc-set b i v (omega (arith, s.long))
-          ∙ rw (s.front, more) (sym (pairs_snoc i (drop 1 board))));
-      long = length-set b i v ∙ s.long;
-    }
-
-pub lengths_end : (board a b : List ℕ) (i k : ℕ) → i ≤ k → k ≤ i → LengthsRead board i a b → LengthsRead board k a b
-lengths_end board a b i k h g s = let e : i ≡ k = omega arith in rw e at s
+    record { front = rw (add-one i) (take-suc-set b i v h ∙ rw (s.front, more) (sym (pairs_snoc i (drop 1 board)))) }
 
 -- A BUFFER THAT BEGINS WITH A BOARD names codes that a board can have, none of them twice
 begins_listed : (buffer : List ℕ) → begins buffer ≡ true →
@@ -94,31 +85,10 @@ begins_within a e =
       omega (arith, g.sums, length-take n (drop (1 + 2 * k) a), length-drop (1 + 2 * k) a),
     )
 
--- where the codes end: at 0, if it begins with no board by them, or there
-pub ends_none : {buffer : List ℕ} → (begins buffer ≡ true → ⊥) → CodesEnd buffer 0
-ends_none {buffer} f = record { none = λ e. fails (begins buffer) f; some = λ h. absurd (h refl) }
-
-pub reads_none : {buffer a : List ℕ} → (begins buffer ≡ true → ⊥) → CodesRead buffer a a 0
-reads_none f = record { ends = ends_none f; lengths_are = λ h. absurd (h refl); long = refl }
-
--- THE LENGTHS that a buffer names, read into a list and lent from its start on
-pub lengths_of : {buffer a b : List ℕ} {k : ℕ} → k ≡ get_or buffer 0 0 → k ≤ 64 → 1 + 2 * k ≤ length buffer → LengthsRead buffer k a b →
-    OnLengthsOf buffer (take (k - 0) b)
+-- THE LENGTHS that a buffer names, read into a list
+pub lengths_of : {buffer b : List ℕ} {k : ℕ} → k ≡ get_or buffer 0 0 → LengthsRead buffer k b → take k b ≡ named_lengths buffer
 unfolding named_lengths
-lengths_of {buffer} {a} {b} {k} e few h s =
-    let all : k - 0 ≡ k = omega arith in
-    let n : length (take k b) ≡ k = ap length s.front ∙ pairs_length k (drop 1 buffer) in
-    rw all
-    (record {
-      lengths_are = s.front ∙ ap (λ (j : ℕ). pairs_of j (drop 1 buffer)) e;
-      count_is = n ∙ e;
-      few = omega arith;
-      room = omega arith;
-    })
-
-pub reads_there : {buffer a b : List ℕ} {k end : ℕ} → k ≡ get_or buffer 0 0 → LengthsRead buffer k a b → CodesEnd buffer end → CodesRead buffer a b end
-unfolding named_lengths
-reads_there e s n = record { ends = n; lengths_are = λ h. rw (← e) s.front; long = s.long }
+lengths_of {buffer} e s = s.front ∙ ap (λ (j : ℕ). pairs_of j (drop 1 buffer)) e
 
 -- what lengths of 32 bits add up to, at most
 pub sum_below : (ls : List ℕ) → ((i : ℕ) → get_or ls i 0 < 4294967296) → sum ls ≤ 4294967296 * length ls
@@ -126,57 +96,52 @@ unfolding sum
 sum_below [] f = omega arith
 sum_below (l ∷ ls) f = omega (arith, f 0, sum_below ls (λ i. f (suc i)))
 
--- THE BYTES that it names, n behind the lengths. It begins with no board where they are not there, or refused
-module _ {buffer ls : List ℕ} (o : OnLengthsOf buffer ls) {n : ℕ} (e : n ≡ sum ls) where
-  pub bytes_behind : take (1 + 2 * length ls + n - (1 + 2 * length ls)) (drop (1 + 2 * length ls) buffer) ≡ named_bytes buffer
+-- THE BYTES that it names, n behind k lengths. It begins with no board where they are not there, or refused
+module _ (buffer b : List ℕ) (k n : ℕ) (few : k ≤ 64) (count : k ≡ get_or buffer 0 0) (read : take k b ≡ named_lengths buffer) (e : n ≡ sum (take k b)) where
+  abbrev bytes : List ℕ
+  bytes = take (1 + 2 * k + n - (1 + 2 * k)) (drop (1 + 2 * k) buffer)
+
+  bytes_behind : bytes ≡ named_bytes buffer
   unfolding named_bytes
   bytes_behind =
-      let at : 1 + 2 * length ls + n - (1 + 2 * length ls) ≡ sum (named_lengths buffer) = omega (arith, e, ap sum o.lengths_are) in
-      rw (at, o.count_is) refl
+      let at : 1 + 2 * k + n - (1 + 2 * k) ≡ sum (named_lengths buffer) = omega (arith, e, ap sum read) in
+      rw (at, count) refl
 
-  pub bytes_missing : length buffer < 1 + 2 * length ls + n → begins buffer ≡ true → ⊥
-  bytes_missing h b = omega (arith, (begins_within buffer b).1, o.count_is, e, ap sum o.lengths_are)
+  pub bytes_missing : length buffer < 1 + 2 * k + n → begins buffer ≡ true → ⊥
+  bytes_missing h t = omega (arith, (begins_within buffer t).1, count, e, ap sum read)
 
-  pub bytes_refused : {m : ℕ} →
-      m ≡ list_refusal ls (take (1 + 2 * length ls + n - (1 + 2 * length ls)) (drop (1 + 2 * length ls) buffer)) → m ≢ 0 → begins buffer ≡ true → ⊥
-  bytes_refused is h b = h (is ∙ rw (bytes_behind, o.lengths_are) (begins_listed buffer b).0)
+  pub bytes_refused : {m : ℕ} → m ≡ list_refusal (take k b) bytes → m ≢ 0 → begins buffer ≡ true → ⊥
+  bytes_refused is h t = h (is ∙ rw (bytes_behind, read) (begins_listed buffer t).0)
 
-  pub ends_there : 1 + 2 * length ls + n ≤ length buffer → {m : ℕ} →
-      m ≡ list_refusal ls (take (1 + 2 * length ls + n - (1 + 2 * length ls)) (drop (1 + 2 * length ls) buffer)) → m ≡ 0 →
-      CodesEnd buffer (1 + 2 * length ls + n)
-  ends_there h {m} is z =
+  pub names_there : 1 + 2 * k + n ≤ length buffer → 0 ≡ list_refusal (take k b) bytes → Names buffer b k (1 + 2 * k + n)
+  names_there h is =
       record {
-        none = λ e. absurd (omega arith);
-        some = λ f.
-            record {
-              few = omega (arith, o.count_is, o.few);
-              end_is = omega (arith, o.count_is, e, ap sum o.lengths_are);
-              within = h;
-              listed = rw (bytes_behind, o.lengths_are) at (sym is ∙ z);
-            };
+        few = few;
+        count_is = count;
+        end_is = omega (arith, e, ap sum read);
+        within = h;
+        lengths_are = read;
+        listed = rw (bytes_behind, read) at (sym is);
       }
 
--- whether it begins with their board
-pub board_none : {buffer a b : List ℕ} {end : ℕ} → CodesRead buffer a b end → begins buffer ≡ false → BoardRead buffer a b 0
-board_none r f = record { none = λ e. f; some = λ h. absurd (h refl); long = r.long }
+-- THE CODES are lent from it
+pub lent_bytes : {buffer b : List ℕ} {k end : ℕ} → Names buffer b k end → take (end - (1 + 2 * k)) (drop (1 + 2 * k) buffer) ≡ named_bytes buffer
+unfolding named_bytes
+lent_bytes {buffer} {b} {k} {end} n =
+    let size : end - (1 + 2 * k) ≡ sum (named_lengths buffer) = omega (arith, n.end_is) in
+    rw (size, n.count_is) refl
 
-pub board_there : {buffer a b : List ℕ} {end : ℕ} → CodesRead buffer a b end → end ≢ 0 → begins buffer ≡ true → BoardRead buffer a b end
-board_there r h t = record { none = λ e. absurd (h e); some = λ f. (t, r.ends.some f, r.lengths_are f); long = r.long }
+-- lengths and bytes that a buffer names, and that a board can have
+pub record NamedBy (buffer ls bs : List ℕ) : Type 0 where
+  pub lengths_are : ls ≡ named_lengths buffer
+  pub bytes_are : bs ≡ named_bytes buffer
+  pub listed : list_refusal ls bs ≡ 0
 
--- the lengths are read and the codes lent
-module _ {buffer : List ℕ} {end : ℕ} (n : Names buffer end) (b : List ℕ) (is : take (get_or buffer 0 0) b ≡ named_lengths buffer) {k : ℕ}
-    (e : k ≡ get_or buffer 0 0) where
-  pub named_of : OnNamed buffer (take (k - 0) b) (take (end - (1 + 2 * k)) (drop (1 + 2 * k) buffer))
-  unfolding named_bytes
-  named_of =
-      let all : k - 0 ≡ get_or buffer 0 0 = omega arith in
-      let size : end - (1 + 2 * k) ≡ sum (named_lengths buffer) = omega (arith, n.end_is, e) in
-      let lengths : take (k - 0) b ≡ named_lengths buffer = rw all is in
-      let bytes : take (end - (1 + 2 * k)) (drop (1 + 2 * k) buffer) ≡ named_bytes buffer = rw (size, e) refl in
-      record { lengths_are = lengths; bytes_are = bytes; listed = rw (lengths, bytes) n.listed }
+pub named_by : {buffer : List ℕ} {k : Codes} → OnNamed buffer k → NamedBy buffer k.lengths.now k.bytes.now
+named_by {buffer} {k} o = record { lengths_are = o.lengths_are; bytes_are = o.bytes_are; listed = k.listed }
 
 -- THE CODES that it names
-module _ {buffer ls bs : List ℕ} (o : OnNamed buffer ls bs) where
+module _ {buffer ls bs : List ℕ} (o : NamedBy buffer ls bs) where
   pub codes_named : cut ls bs ≡ named buffer
   unfolding named
   codes_named = rw (o.lengths_are, o.bytes_are) refl

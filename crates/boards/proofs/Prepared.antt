@@ -1,51 +1,20 @@
--- What preparing a board begins with, lists with nothing in them, and what it answers, by refusal. Assumes nothing.
+-- What preparing a board answers, by refusal. Assumes nothing.
 use mathlib.Core.Path.{◌≡◌, refl, sym}
 use mathlib.Core.Bool.{true, false}
 use mathlib.Core.List.{List, [], ◌∷◌}
 use mathlib.Core.Logic.{◌≢◌}
-use Prim.Native.Nat.{ℕ, zero, suc, ◌≤◌, ◌<◌}
+use Prim.Native.Nat.{ℕ, ◌≤◌, ◌<◌}
 use native.Mathlib.Omega.{arith}
 use lib.Dec.{ltb}
-use lib.ListN.{length, get_or, replicate, length-replicate, get_or-replicate}
+use lib.ListN.{length}
 use borrow.Author.Tests.{ne_eqb, lt-ltb, le-ltb}
-use Rattle.codes.specs.declared.Answer.TheVariants.{Value, Refused}
-use Rattle.codes.specs.Refusals.{refused_if, first_refusal}
+use Rattle.codes.specs.Refusals.{refused_if, first_refusal, Value, Refused}
 use Rattle.codes.proofs.Refusals.{first_here, answered_value, answered_refusal}
 use Rattle.starts.specs.Starts.{twice}
 use Rattle.boards.specs.Board.{cut, list_refusal, codes_refusal, board, board_room}
 use Rattle.boards.specs.Entry.{prepare_refusal, prepare_answer, prepare_buffer, PrepareSays}
-use Rattle.boards.specs.Tables.{tree, tables}
 use Rattle.boards.specs.Written.{BoardMade}
-use Rattle.boards.specs.Inside.{EmptyLists}
 use Rattle.boards.proofs.Listing.{refuses_first, refuses_11, codes_none}
-
--- LISTS OF ZEROS, and of 256 where no byte is behind a start
-pub zeros : (n j : ℕ) → ◌≡◌ {A = ℕ} (get_or (replicate n 0) j 0) 0
-zeros zero j = refl
-zeros (suc n) zero = refl
-zeros (suc n) (suc j) = zeros n j
-
-module _ (states keys codes links : ℕ) (a : 2001 ≤ states) (b : 256 ≤ keys) (c : 64 ≤ codes) (d : 4002 ≤ links) where
-  pub nothing_in :
-      EmptyLists (tree (replicate states 256) (replicate states 0) (replicate keys 0) (replicate codes 0))
-      (tables (replicate links 0) (replicate states 0) (replicate codes 0))
-  nothing_in =
-      record {
-        next_none = λ g h. get_or-replicate states g 256 0 (omega (arith, h, length-replicate {A = ℕ} states 256));
-        forks_none = zeros states;
-        keys_none = zeros keys;
-        links_none = zeros links;
-        nearest_none = zeros states;
-        roomy = record {
-          next_long = omega (arith, length-replicate {A = ℕ} states 256);
-          forks_long = omega (arith, length-replicate {A = ℕ} states 0);
-          keys_long = omega (arith, length-replicate {A = ℕ} keys 0);
-          heads_long = omega (arith, length-replicate {A = ℕ} codes 0);
-        };
-        links_long = omega (arith, length-replicate {A = ℕ} links 0);
-        nearest_long = omega (arith, length-replicate {A = ℕ} states 0);
-        shorter_long = omega (arith, length-replicate {A = ℕ} codes 0);
-      }
 
 -- THE ANSWER
 module _ (ls bs a : List ℕ) where

@@ -13,7 +13,8 @@ use Rattle.starts.specs.Starts.{code, known, total, state, start, fallback, is_c
 use Rattle.starts.proofs.States.{state_within, start_state}
 use Rattle.starts.proofs.Codes.{code_index, number_code, number_none, number_few}
 use Rattle.starts.proofs.Nearest.{nearest_code, nearest_back, shorter_back}
-use Rattle.boards.specs.Tables.{LinkLists, put_state, put_byte, Done, Blank}
+use Rattle.boards.specs.declared.links.Links.{Links as LinkLists}
+use Rattle.boards.specs.Tables.{put_state, put_byte, Done, Blank}
 
 -- LISTS as long as others
 pub record AsLong (a b : LinkLists) : Type 0 where
@@ -21,13 +22,6 @@ pub record AsLong (a b : LinkLists) : Type 0 where
   pub nearest : length b.nearest ≡ length a.nearest
   pub shorter : length b.shorter ≡ length a.shorter
 
-pub as_long_same : (k : LinkLists) → AsLong k k
-as_long_same k = record { links = refl; nearest = refl; shorter = refl }
-
-pub as_long_then : {a b c : LinkLists} → AsLong a b → AsLong b c → AsLong a c
-as_long_then p q = record { links = q.links ∙ p.links; nearest = q.nearest ∙ p.nearest; shorter = q.shorter ∙ p.shorter }
-
--- ONE STATE'S LINKS are put: each field, with and without a number of its own
 module _ (k : LinkLists) (g f d : ℕ) where
   put_links : (put_state k g f d).links ≡ set (set k.links (2 * g) f) (2 * g + 1) d
   unfolding put_state
@@ -193,7 +187,6 @@ pub record Put (ws : List (List ℕ)) (k k' : LinkLists) (g : ℕ) : Type 0 wher
   pub kept : (u : List ℕ) → known ws u ≡ true → state ws u ≢ g → Done ws k u → Done ws k' u
   pub other : (h : ℕ) → h ≢ g → get_or k'.nearest h 0 ≡ get_or k.nearest h 0
   pub blank : Blank ws k'
-  pub long : AsLong k k'
 
 module _ (ws : List (List ℕ)) (k : LinkLists) (v : List ℕ) (s : ℕ) where
   put_byte_own : state ws v ≡ suc s → put_byte ws k v s ≡ put_state k (state ws v) (state ws (fallback ws v)) (length v)
@@ -219,7 +212,6 @@ module _ (ws : List (List ℕ)) (k : LinkLists) (v : List ℕ) (s : ℕ) where
         kept = λ u p n. put_kept ws k v few codes_few blank is_Known unset back u p (λ q. n (q ∙ e));
         other = λ h n. put_nearest_other k (state ws v) (state ws (fallback ws v)) (length v) h (λ q. n (q ∙ e));
         blank = put_blank ws k v few codes_few blank is_Known unset back;
-        long = put_long k (state ws v) (state ws (fallback ws v)) (length v);
       }))
       (λ (n : state ws v ≢ suc s).
       rw (put_byte_none n)
@@ -228,5 +220,4 @@ module _ (ws : List (List ℕ)) (k : LinkLists) (v : List ℕ) (s : ℕ) where
         kept = λ u p m a. a;
         other = λ h m. refl;
         blank = blank;
-        long = as_long_same k;
       }))

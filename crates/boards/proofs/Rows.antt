@@ -14,8 +14,9 @@ use Rattle.starts.proofs.States.{start_known, state_is_state}
 use Rattle.starts.proofs.Codes.{code_known, is_code_at, number_at}
 use Rattle.sheets.specs.Sheet as sheet
 use Rattle.sheets.proofs.Layouts.{length_numbers}
+use Rattle.boards.specs.declared.links.Links.{Links as LinkLists}
 use Rattle.boards.specs.Board.{cut, bytes_of, link, nearest_at, row, rows_below, header, board}
-use Rattle.boards.specs.Tables.{LinkLists, AllLinked}
+use Rattle.boards.specs.Tables.{Good, AllLinked}
 use Rattle.boards.specs.Written.{Spliced, Small, rows_in, OnBoard, BoardMade}
 use Rattle.boards.proofs.Cuts.{cut_length, cut_total, cut_lengths, cut_bytes}
 use Rattle.boards.proofs.Splices.{spliced_sets, spliced_then, spliced_front, row_long}
@@ -106,29 +107,29 @@ unfolding sum
 small_all [] h = tt
 small_all (l ∷ ls) h = (omega arith, small_all ls (omega arith))
 
-module _ {ls bs : List ℕ} {k : LinkLists} {a : List ℕ} (o : OnBoard ls bs k a) where
+module _ {ls bs : List ℕ} {k : LinkLists} {a : List ℕ} (good : Good ls bs) (o : OnBoard (cut ls bs) k a) where
   abbrev ws : List (List ℕ)
   ws = cut ls bs
 
   bytes_are : total ws ≡ length bs
-  bytes_are = cut_total ls bs (omega (arith, o.good.sums)) ∙ o.good.sums
+  bytes_are = cut_total ls bs (omega (arith, good.sums)) ∙ good.sums
 
   pub lengths_small : Small ls
-  lengths_small = small_all ls (omega (arith, o.good.sums, o.good.bytes))
+  lengths_small = small_all ls (omega (arith, good.sums, good.bytes))
 
   pub size_few : 1 + 2 * length ls + length bs + length ls + 3 * (length bs + 1) ≤ 8196
-  size_few = omega (arith, o.good.codes, o.good.bytes)
+  size_few = omega (arith, good.codes, good.bytes)
 
   -- its parts as they are written
   header_parts : header ws ≡ length ls ∷ (sheet.numbers 2 ls ++ bs)
   unfolding header
-  header_parts = rw (cut_length ls bs, cut_lengths ls bs (omega (arith, o.good.sums)), cut_bytes ls bs o.good.sums)
+  header_parts = rw (cut_length ls bs, cut_lengths ls bs (omega (arith, good.sums)), cut_bytes ls bs good.sums)
 
   parts : board ws ≡ (length ls ∷ (sheet.numbers 2 ls ++ bs)) ++ take (length ls) k.shorter ++ rows_in k.links k.nearest (length bs + 1)
   unfolding board
   parts =
       let n : length bs + 1 ≡ suc (total ws) = omega (arith, bytes_are) in
-      let short = shorter_are o.linked o.once (omega (arith, cut_length ls bs, o.good.codes, o.linked.blank.shorter_long)) in
+      let short = shorter_are o.linked o.once (omega (arith, cut_length ls bs, good.codes, o.linked.blank.shorter_long)) in
       rw (header_parts, n, rows_are o.linked, ← short, cut_length ls bs)
 
   pub board_written : {c d e f : List ℕ} →
@@ -145,7 +146,7 @@ module _ {ls bs : List ℕ} {k : LinkLists} {a : List ℕ} (o : OnBoard ls bs k 
       let bytes = spliced_then lengths (omega (arith, length_numbers 2 ls)) q in
       let behind : length (ns ++ bs) ≡ 2 * length ls + length bs = omega (arith, length-append ns bs, length_numbers 2 ls) in
       let shorts = spliced_then bytes (omega (arith, behind)) r in
-      let few = length-take-le (length ls) k.shorter (omega (arith, o.good.codes, o.linked.blank.shorter_long)) in
+      let few = length-take-le (length ls) k.shorter (omega (arith, good.codes, o.linked.blank.shorter_long)) in
       let whole = spliced_then shorts (omega (arith, length-append (length ls ∷ (ns ++ bs)) hs, behind, few)) s in
       record {
         size_is = omega (arith, board_length ws, cut_length ls bs, bytes_are);

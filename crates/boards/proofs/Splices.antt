@@ -1,16 +1,17 @@
 -- A list written part by part: nothing, some bytes, one part after another, and a list with all of them in front. Assumes nothing.
 use mathlib.Core.Path.{◌≡◌, refl, sym, ap, ◌∙◌}
 use mathlib.Core.List.{List, [], ◌∷◌, ◌++◌, append-nil, append_assoc}
-use Prim.Native.Nat.{ℕ, zero, suc, ◌+◌, ◌*◌, ◌/◌, ◌%◌, ◌≤◌, ◌<◌}
+use Prim.Native.Nat.{ℕ, zero, suc, ◌-◌, ◌+◌, ◌*◌, ◌/◌, ◌%◌, ◌≤◌, ◌<◌}
 use native.Mathlib.Numerals.{add-one}
 use native.Mathlib.Omega.{arith}
-use lib.ListN.{length, get_or, take, drop, set, length-append, take-append-drop}
+use lib.ListN.{length, get_or, take, drop, set, length-append, length-drop, take-append-drop}
 use lib.Seq.{take-suc, take_at, drop_at, length-take-le, sets, sets-eq, length-sets}
+use borrow.Rule.Slice.PartMut.{put_mid}
+use Rattle.std.proofs.lemmas.Slice.{take-put_mid, drop-put_mid}
 use Rattle.words.specs.Words.{in_front}
 use Rattle.words.proofs.Lists.{length_snoc, drop_more}
 use Rattle.sheets.specs.Sheet.{number, numbers}
 use Rattle.sheets.proofs.Layouts.{length_number, length_numbers, numbers_snoc}
-use Rattle.sheets.proofs.Widths.{puts_two}
 use Rattle.boards.specs.Written.{Spliced, rows_in}
 
 pub spliced_none : (k : ℕ) (a : List ℕ) → Spliced k [] a a
@@ -26,6 +27,35 @@ spliced_sets k vs a h =
       rest = ap (drop (k + length vs)) (sets-eq vs a k h) ∙ drop_at (take k a ++ vs) rest (k + length vs) size;
       long = length-sets a k vs;
     }
+
+-- a part that is copied
+pub spliced_copy : {k e : ℕ} {vs a ys : List ℕ} → ys ≡ vs → e ≡ k + length vs → e ≤ length a → Spliced k vs a (put_mid k (e - k) a ys)
+spliced_copy {k} {e} {vs} {a} {ys} is at h =
+    let gap : e - k ≡ length vs = omega arith in
+    rw (is, gap)
+    (record {
+      front = take-put_mid k (length vs) a vs (k + length vs) refl (omega arith);
+      rest = drop-put_mid k (length vs) a vs (k + length vs) (omega arith) (omega arith) refl;
+      long =
+          omega (
+            arith,
+            length-append (take k a) (vs ++ drop (length vs) (drop k a)),
+            length-append vs (drop (length vs) (drop k a)),
+            length-take-le k a (omega arith),
+            length-drop (length vs) (drop k a),
+            length-drop k a,
+          );
+    })
+
+pub spliced_first : {vs a ys : List ℕ} → ys ≡ vs → length vs ≤ length a → Spliced 0 vs a (ys ++ drop (length vs) a)
+spliced_first {vs} {a} is h =
+    let n : 0 + length vs ≡ length vs = omega arith in
+    rw is
+    (record {
+      front = rw n (take_at vs (drop (length vs) a) (length vs) refl);
+      rest = rw n (drop_at vs (drop (length vs) a) (length vs) refl);
+      long = omega (arith, length-append vs (drop (length vs) a), length-drop (length vs) a);
+    })
 
 pub spliced_on : {k : ℕ} {xs ys a b c : List ℕ} → Spliced k xs a b → Spliced (k + length xs) ys b c → Spliced k (xs ++ ys) a c
 spliced_on {k} {xs} {ys} {a} {b} {c} s t =
@@ -51,21 +81,20 @@ spliced_front {xs} {a} {b} s =
     let none : 0 + length xs ≡ length xs = omega arith in
     sym (take-append-drop (length xs) b) ∙ rw (← none, s.front, s.rest)
 
--- THE LOOPS: one byte more of some, the two bytes of one number more, one row more
-module _ (xs a b : List ℕ) (at i : ℕ) where
-  pub bytes_turn : Spliced at (take i xs) a b → i < length xs → at + length xs ≤ length a →
-      Spliced at (take (i + 1) xs) a (set b (at + i) (get_or xs i 0))
-  bytes_turn s h r =
-      let size : length (take i xs) ≡ i = length-take-le i xs (omega arith) in
-      rw (add-one i, take-suc xs i 0 h) (spliced_more (get_or xs i 0 ∷ []) (at + i) s (omega arith) (omega arith))
+-- A NUMBER in two bytes
+pub spliced_pair : {k v : ℕ} {a b xs : List ℕ} → v < 65536 → xs ≡ v / 256 % 256 ∷ v % 256 ∷ [] → Spliced k xs a b → Spliced k (number 2 v) a b
+unfolding number
+spliced_pair {v = v} small is s =
+    let high : v / 256 % 256 ≡ v / 256 = omega arith in
+    rw (is, high) at s
 
-  pub lengths_turn : Spliced at (numbers 2 (take i xs)) a b → i < length xs → at + 2 * length xs ≤ length a → (l : ℕ) → l ≡ get_or xs i 0 →
-      Spliced at (numbers 2 (take (i + 1) xs)) a (set (set b (at + 2 * i) (l / 256)) (at + 2 * i + 1) (l % 256))
-  lengths_turn s h r l e =
-      let size = length_numbers 2 (take i xs) in
-      let front : length (take i xs) ≡ i = length-take-le i xs (omega arith) in
-      rw (puts_two b 2 (at + 2 * i) l refl, add-one i, take-suc xs i 0 h, numbers_snoc 2 (take i xs) (get_or xs i 0), ← e)
-      (spliced_more (number 2 l) (at + 2 * i) s (omega arith) (omega (arith, length_number 2 l)))
+-- THE LOOPS: one number more, one row more
+pub lengths_turn : (xs : List ℕ) {a b c : List ℕ} {at i : ℕ} → i < length xs → Spliced at (numbers 2 (take i xs)) a b → Spliced (at + 2 * i) (number 2 (get_or xs i 0)) b c →
+    Spliced at (numbers 2 (take (i + 1) xs)) a c
+lengths_turn xs {at = at} {i} h s t =
+    let size = length_numbers 2 (take i xs) in
+    let front : length (take i xs) ≡ i = length-take-le i xs (omega arith) in
+    rw (add-one i, take-suc xs i 0 h, numbers_snoc 2 (take i xs) (get_or xs i 0)) (spliced_then s (omega arith) t)
 
 pub row_long : (f n : ℕ) → length (number 2 f ++ (n ∷ [])) ≡ 3
 row_long f n = omega (arith, length_snoc (number 2 f) n, length_number 2 f)
@@ -78,14 +107,12 @@ rows_length ls ns (suc g) =
     let n : ℕ = get_or ns g 0 in
     omega (arith, length-append (rows_in ls ns g) (number 2 f ++ (n ∷ [])), row_long f n, rows_length ls ns g)
 
-row_put : (b : List ℕ) (at f n : ℕ) → set (set (set b at (f / 256)) (at + 1) (f % 256)) (at + 2) n ≡ sets b at (number 2 f ++ (n ∷ []))
-unfolding number
-row_put b at f n = let two : at + 2 ≡ suc (suc at) = omega arith in rw (two, add-one at) refl
-
-pub rows_turn : (ls ns a b : List ℕ) (at g : ℕ) → Spliced at (rows_in ls ns g) a b → at + 3 * g + 3 ≤ length a →
-    (f n : ℕ) → f ≡ get_or ls (2 * g) 0 → n ≡ get_or ns g 0 →
-    Spliced at (rows_in ls ns (g + 1)) a (set (set (set b (at + 3 * g) (f / 256)) (at + 3 * g + 1) (f % 256)) (at + 3 * g + 2) n)
+pub rows_turn : (ls ns : List ℕ) (g : ℕ) {a b c : List ℕ} {at : ℕ} → Spliced at (rows_in ls ns g) a b → at + 3 * g + 3 ≤ length a →
+    Spliced (at + 3 * g) (number 2 (get_or ls (2 * g) 0)) b c → Spliced at (rows_in ls ns (g + 1)) a (set c (at + 3 * g + 2) (get_or ns g 0))
 unfolding rows_in
-rows_turn ls ns a b at g s r f n e d =
-    rw (row_put b (at + 3 * g) f n, add-one g, ← e, ← d)
-    (spliced_more (number 2 f ++ (n ∷ [])) (at + 3 * g) s (omega (arith, rows_length ls ns g)) (omega (arith, row_long f n)))
+rows_turn ls ns g {a} {b} {c} {at} s r t =
+    let f : ℕ = get_or ls (2 * g) 0 in
+    let n : ℕ = get_or ns g 0 in
+    let row : Spliced (at + 3 * g) (number 2 f ++ (n ∷ [])) b (set c (at + 3 * g + 2) n) =
+    spliced_more (n ∷ []) (at + 3 * g + 2) t (omega (arith, length_number 2 f)) (omega (arith, s.long)) in
+    rw (add-one g) (spliced_then s (omega (arith, rows_length ls ns g)) row)

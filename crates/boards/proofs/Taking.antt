@@ -9,17 +9,18 @@ use lib.Dec.{leb}
 use lib.ListN.{length, get_or, drop, length-append, length-map}
 use borrow.Author.Tests.{leb-true, leb-false}
 use borrow.Table.Elements.{map_app}
-use Rattle.runs.specs.declared.Ending.{Ending}
-use Rattle.runs.specs.declared.Ending.TheVariants.{PieceDone, ListFull}
-use Rattle.runs.specs.Reading.{longest_text, fed, fed_more, ending}
+use Rattle.runs.specs.Reading.{longest_text, fed, fed_more, ending, Ended, PieceDone, ListFull}
 use Rattle.runs.proofs.Feeds.{Taking, taking_start, taking_more, taking_done, taking_full, ending_list, ending_done}
 use Rattle.starts.specs.Starts.{code, start}
 use Rattle.starts.specs.Hits.{Hit, hits_at}
 use Rattle.starts.proofs.States.{state_within}
 use Rattle.starts.proofs.Codes.{is_code_at, code_known, none_empty, number_at}
+use Rattle.boards.specs.declared.fronts.Fronts.{Fronts as FrontLists}
+use Rattle.boards.specs.declared.links.Links.{Links as LinkLists}
+use Rattle.boards.specs.declared.tree.Tree.{Tree as TreeLists}
 use Rattle.boards.specs.declared.Watch.{Watch}
 use Rattle.boards.specs.Board.{cut}
-use Rattle.boards.specs.Tables.{Good, TreeLists, Linked, LinkLists, AllLinked}
+use Rattle.boards.specs.Tables.{Good, Linked, AllLinked}
 use Rattle.boards.specs.Written.{Spliced}
 use Rattle.boards.specs.Fronts.{Fronts}
 use Rattle.boards.specs.Feed.{feeder, feed}
@@ -40,20 +41,12 @@ spots_free k r n e t = omega (arith, e, leb-true k r t)
 pub spots_taken : (k r n : ℕ) → r ≡ n → leb k r ≡ false → n < k
 spots_taken k r n e t = omega (arith, e, leb-false k r t)
 
--- the words of the codes' first bytes, how many of these there are, and where each code begins
-pub record FrontLists : Type 0 where
-  pub words : List ℕ
-  pub starts : List ℕ
-  pub depth : ℕ
-
-abbrev pub front_lists : (words starts : List ℕ) → (depth : ℕ) → FrontLists
-front_lists ws ss d = record { words = ws; starts = ss; depth = d }
-
 -- WHAT EVERY TURN READS: the board's lists, the watch at the beginning, the piece, and those words
 pub record FeedsFrom (ls bs : List ℕ) (t : TreeLists) (l : LinkLists) (x : Watch) (piece : List ℕ) (f : FrontLists) : Type 0 where
-  pub boarded : Boarded ls bs t l
+  pub good : Good ls bs
+  pub boarded : Boarded (cut ls bs) t l
   pub ready : Ready (cut ls bs) x (length piece)
-  pub fronts : Fronts (cut ls bs) f.depth f.words f.starts
+  pub fronts : Fronts (cut ls bs) f
   pub bytes : (i : ℕ) → get_or piece i 0 < 256
 
 -- a watch i bytes and k hits further on, in state g
@@ -90,7 +83,7 @@ module _ {ls bs : List ℕ} {t : TreeLists} {l : LinkLists} {x : Watch} {piece :
   ws = cut ls bs
 
   abbrev good : Good ls bs
-  good = v.lists.boarded.good
+  good = v.lists.good
 
   -- what the casts and sums need
   pub loop_bounds : (i ≤ length piece) × (x.taken + i ≤ longest_text) × (x.hits + k ≤ 64 * (x.taken + i)) × (g ≤ 2000) × (length ls ≤ 64)
@@ -107,7 +100,7 @@ module _ {ls bs : List ℕ} {t : TreeLists} {l : LinkLists} {x : Watch} {piece :
   loop_long = (v.places_are.long, v.numbers_are.long)
 
   -- THE END: with the piece, or with the lists
-  took : (e : Ending) → feed ws piece (room (lent piece a p)) x ≡ fed (further x g i k) i v.told →
+  took : (e : Ended) → feed ws piece (room (lent piece a p)) x ≡ fed (further x g i k) i v.told →
       e ≡ ending (length ws) piece (room (lent piece a p)) (fed (further x g i k) i v.told) →
       Took ws x (lent piece a p) (record { watch = further x g i k; taken = i; written = k; ending = e }) (lent piece b q)
   took e f h =
@@ -121,13 +114,13 @@ module _ {ls bs : List ℕ} {t : TreeLists} {l : LinkLists} {x : Watch} {piece :
             });
       }
 
-  pub answer_done : (e : Ending) → e ≡ PieceDone → length piece ≤ i →
+  pub answer_done : (e : Ended) → e ≡ PieceDone → length piece ≤ i →
       Took ws x (lent piece a p) (record { watch = further x g i k; taken = i; written = k; ending = e }) (lent piece b q)
   answer_done e d h =
       took e (taking_done v.taking h)
       (d ∙ sym (ending_done (length ws) piece (room (lent piece a p)) (fed (further x g i k) i v.told) h))
 
-  pub answer_full : (e : Ending) → e ≡ ListFull → i < length piece → min (length a) (length p) < k + length ls →
+  pub answer_full : (e : Ended) → e ≡ ListFull → i < length piece → min (length a) (length p) < k + length ls →
       Took ws x (lent piece a p) (record { watch = further x g i k; taken = i; written = k; ending = e }) (lent piece b q)
   unfolding room
   answer_full e d h m =
@@ -136,7 +129,7 @@ module _ {ls bs : List ℕ} {t : TreeLists} {l : LinkLists} {x : Watch} {piece :
       (d ∙ sym (ending_list (length ws) piece (room (lent piece a p)) (fed (further x g i k) i v.told) none h))
 
   -- A TURN: what the next bytes need
-  pub turn_advancing : i < length piece → Advancing ws (start ws g) t l.links f.words f.starts f.depth g piece i
+  pub turn_advancing : i < length piece → Advancing ws (start ws g) t l.links f g piece i
   turn_advancing inside =
       record {
         is_tree = v.lists.boarded.is_tree;
@@ -148,7 +141,7 @@ module _ {ls bs : List ℕ} {t : TreeLists} {l : LinkLists} {x : Watch} {piece :
         bytes = v.lists.bytes;
       }
 
-  pub turn_needs : i < length piece → OnAdvance t l.links f.words f.starts f.depth g piece i
+  pub turn_needs : i < length piece → OnAdvance t l.links f g piece i
   turn_needs inside =
       record { ws = ws; u = start ws g; advancing = turn_advancing inside }
 

@@ -1,5 +1,5 @@
 -- The tree of the codes' starts: what its lists tell of a start and one byte more, how far a code is followed, and the labels of a code. Assumes nothing.
-use mathlib.Core.Path.{◌≡◌, sym, ap, ◌∙◌}
+use mathlib.Core.Path.{◌≡◌, refl, sym, ap, ◌∙◌}
 use mathlib.Core.Bool.{true, false}
 use mathlib.Core.List.{List, [], ◌∷◌, ◌++◌}
 use mathlib.Core.Logic.{◌≢◌}
@@ -14,8 +14,8 @@ use Rattle.bits.specs.Bits.{holds, Top}
 use Rattle.bits.proofs.Bits.{holds_and, holds_zero}
 use Rattle.starts.specs.Starts.{known, state}
 use Rattle.starts.proofs.States.{known_nil, state_nil, state_some, state_within}
-use Rattle.boards.specs.Tables.{TreeLists, Tree, OnTree, branches_off, child_of, Labelled, Went, part}
-use Rattle.boards.proofs.Cuts.{part_length, part_at}
+use Rattle.boards.specs.declared.tree.Tree.{Tree as TreeLists}
+use Rattle.boards.specs.Tables.{Tree, OnTree, branches_off, child_of, Labelled, Went}
 
 -- A STATE is within the lists
 pub tree_inside : (t : TreeLists) (g : ℕ) → OnTree t g → (g ≤ 2000) × (2001 ≤ length t.next) × (2001 ≤ length t.forks)
@@ -70,32 +70,53 @@ module _ (ws : List (List ℕ)) (t : TreeLists) (u : List ℕ) (g c : ℕ) (is_t
       (child_none ws u c
       (is_tree.no_other u c k (rw at n) (λ j. off j ∙ ap (λ (m : ℕ). holds m j) z ∙ holds_zero j)))
 
--- LABELS: one more, and all of a code
-pub labels_more : (s i : ℕ) (bs a b : List ℕ) → 1 ≤ i → s + i < length b → Labelled s i bs a b →
-    Labelled s (i + 1) bs a (set b (s + i) (get_or bs (s + i) 0))
-labels_more s i bs a b some inside x =
+-- LABELS: those before i are there, one more, and all of a code
+pub record Labelling (s i : ℕ) (w a b : List ℕ) : Type 0 where
+  pub some : 1 ≤ i
+  pub few : i ≤ length w + (1 - length w)
+  pub inner : (k : ℕ) → 1 ≤ k → k < i → get_or b (s + k) 0 ≡ get_or w k 0
+  pub before : (g : ℕ) → g ≤ s → get_or b g 0 ≡ get_or a g 0
+  pub behind : (g : ℕ) → s + i ≤ g → get_or b g 0 ≡ get_or a g 0
+  pub long : length b ≡ length a
+
+pub labels_start : (s : ℕ) (w a : List ℕ) → Labelling s 1 w a a
+labels_start s w a =
     record {
+      some = omega arith;
+      few = omega arith;
+      inner = λ (k : ℕ) (h : 1 ≤ k) (l : k < 1). absurd (omega arith);
+      before = λ g h. refl;
+      behind = λ g h. refl;
+      long = refl;
+    }
+
+pub labels_more : {s i : ℕ} {w a b : List ℕ} → i < length w → s + i < length b → Labelling s i w a b →
+    Labelling s (i + 1) w a (set b (s + i) (get_or w i 0))
+labels_more {s} {i} {w} {a} {b} below inside x =
+    record {
+      some = omega arith;
+      few = omega arith;
       inner =
           λ (k : ℕ) (h : 1 ≤ k) (l : k < i + 1).
           by_eq k i
-          (λ (e : k ≡ i). rw e (get_or-set_same b (s + i) (get_or bs (s + i) 0) 0 inside))
-          (λ (n : k ≢ i). get_or-set_other b (s + i) (s + k) (get_or bs (s + i) 0) 0 (λ (e : s + k ≡ s + i). n (omega arith)) ∙ x.inner k h (omega arith));
+          (λ (e : k ≡ i). rw e (get_or-set_same b (s + i) (get_or w i 0) 0 inside))
+          (λ (n : k ≢ i). get_or-set_other b (s + i) (s + k) (get_or w i 0) 0 (λ (e : s + k ≡ s + i). n (omega arith)) ∙ x.inner k h (omega arith));
       before =
-          λ (g : ℕ) (h : g ≤ s). get_or-set_other b (s + i) g (get_or bs (s + i) 0) 0 (λ (e : g ≡ s + i). absurd (omega arith)) ∙ x.before g h;
+          λ (g : ℕ) (h : g ≤ s). get_or-set_other b (s + i) g (get_or w i 0) 0 (λ (e : g ≡ s + i). absurd (omega (arith, x.some))) ∙ x.before g h;
       behind =
           λ (g : ℕ) (h : s + (i + 1) ≤ g).
-          get_or-set_other b (s + i) g (get_or bs (s + i) 0) 0 (λ (e : g ≡ s + i). absurd (omega arith)) ∙ x.behind g (omega arith);
-      long = length-set b (s + i) (get_or bs (s + i) 0) ∙ x.long;
+          get_or-set_other b (s + i) g (get_or w i 0) 0 (λ (e : g ≡ s + i). absurd (omega arith)) ∙ x.behind g (omega arith);
+      long = length-set b (s + i) (get_or w i 0) ∙ x.long;
     }
 
-pub labels_end : (s i l : ℕ) (bs a b : List ℕ) → l ≤ i → i ≤ l + (1 - l) → Labelled s i bs a b → Labelled s l bs a b
-labels_end s i l bs a b h k x =
+pub labels_end : {s i : ℕ} {w a b : List ℕ} → length w ≤ i → Labelling s i w a b → Labelled s w a b
+labels_end {s} {i} {w} h x =
     record {
-      inner = λ (j : ℕ) (p : 1 ≤ j) (q : j < l). x.inner j p (omega arith);
+      inner = λ (j : ℕ) (p : 1 ≤ j) (q : j < length w). x.inner j p (omega arith);
       before = x.before;
       behind =
-          λ (g : ℕ) (p : s + l ≤ g).
-          by_le g s (λ (q : g ≤ s). x.before g q) (λ (q : s < g). x.behind g (omega arith));
+          λ (g : ℕ) (p : s + length w ≤ g).
+          by_le g s (λ (q : g ≤ s). x.before g q) (λ (q : s < g). x.behind g (omega (arith, x.few)));
       long = x.long;
     }
 
@@ -107,30 +128,28 @@ pub record Going (ws : List (List ℕ)) (w : List ℕ) (g d : ℕ) : Type 0 wher
 pub going_start : (ws : List (List ℕ)) (w : List ℕ) → Going ws w 0 0
 going_start ws w = record { known_is = known_nil ws; state_is = sym (state_nil ws) }
 
-module _ (ws : List (List ℕ)) (bs : List ℕ) (s l g d : ℕ) (inside : s + l ≤ length bs) (x : Going ws (part s l bs) g d) where
-  pub going_end : l ≤ d → d ≤ l → Went ws (part s l bs) g d
-  going_end h k =
-      let n : length (part s l bs) ≡ l = part_length s l bs inside in
-      record { within = omega arith; known_is = x.known_is; state_is = x.state_is; stops = λ (q : d < length (part s l bs)). absurd (omega arith) }
+module _ {ws : List (List ℕ)} {w : List ℕ} {g d : ℕ} (x : Going ws w g d) where
+  pub going_end : (n : ℕ) → n ≡ length w → n ≤ d → d ≤ n → Went ws w g n
+  going_end n size h k =
+      let at : d ≡ n = omega arith in
+      rw (← at) (record { within = omega arith; known_is = x.known_is; state_is = x.state_is; stops = λ (q : d < length w). absurd (omega arith) })
 
-  module _ (c h : ℕ) (below : d < l) (byte-is : get_or bs (s + d) 0 ≡ c) (is-child : h ≡ child_of ws (take d (part s l bs)) c) where
-    longer : take (suc d) (part s l bs) ≡ take d (part s l bs) ++ (c ∷ [])
-    longer =
-        take-suc (part s l bs) d 0 (omega (arith, part_length s l bs inside))
-        ∙ ap (λ (b : ℕ). take d (part s l bs) ++ (b ∷ [])) (part_at s l bs d below ∙ byte-is)
+  module _ (c h : ℕ) (below : d < length w) (byte-is : get_or w d 0 ≡ c) (is-child : h ≡ child_of ws (take d w) c) where
+    longer : take (suc d) w ≡ take d w ++ (c ∷ [])
+    longer = take-suc w d 0 below ∙ ap (λ (b : ℕ). take d w ++ (b ∷ [])) byte-is
 
-    pub going_stop : h ≡ 0 → Went ws (part s l bs) g d
+    pub going_stop : h ≡ 0 → Went ws w g d
     going_stop z =
         record {
-          within = omega (arith, part_length s l bs inside);
+          within = omega arith;
           known_is = x.known_is;
           state_is = x.state_is;
-          stops = λ q. ap (known ws) longer ∙ child_zero ws (take d (part s l bs)) c (sym is-child ∙ z);
+          stops = λ q. ap (known ws) longer ∙ child_zero ws (take d w) c (sym is-child ∙ z);
         }
 
-    pub going_more : h ≢ 0 → Going ws (part s l bs) h (d + 1)
+    pub going_more : h ≢ 0 → Going ws w h (d + 1)
     going_more n =
-        let k = child_some ws (take d (part s l bs)) c (λ e. n (is-child ∙ e)) in
+        let k = child_some ws (take d w) c (λ e. n (is-child ∙ e)) in
         let at : suc d ≡ d + 1 = omega arith in
-        let more : take (d + 1) (part s l bs) ≡ take d (part s l bs) ++ (c ∷ []) = rw (← at) longer in
+        let more : take (d + 1) w ≡ take d w ++ (c ∷ []) = rw (← at) longer in
         record { known_is = ap (known ws) more ∙ k.0; state_is = is-child ∙ k.1 ∙ ap (state ws) (sym more) }

@@ -1,14 +1,12 @@
 -- What the entry points `prepare` and `feed` answer and leave behind, and runs of feeding. Assumes nothing: these are definitions.
 use Rattle.std.specs.Prelude.{◌≡◌, not, cond, List, [], ◌∷◌, map, ℕ, zero, suc, ◌+◌, min, ltb, eqb, length, take}
+use Rattle.runs.specs.Answers.{Answer as FeedAnswer}
 use Rattle.words.specs.Words.{in_front}
-use Rattle.runs.specs.declared.Ending.TheVariants.{Refused}
-use Rattle.runs.specs.Reading.{longest_text, Fed, ending}
+use Rattle.runs.specs.Reading.{longest_text, Fed, ending, Refused}
 use Rattle.runs.specs.Calls.{Outcome, run, Call}
-use Rattle.codes.specs.declared.Answer.{Answer}
-use Rattle.codes.specs.Refusals.{refused_if, first_refusal, answered}
+use Rattle.codes.specs.Refusals.{refused_if, first_refusal, answered, Answer}
 use Rattle.starts.specs.Hits.{Hit, hit}
 use Rattle.boards.specs.declared.Watch.{Watch}
-use Rattle.boards.specs.declared.Feeding.{Feeding}
 use Rattle.boards.specs.Board.{cut, codes_refusal, board_room, board, named, begins}
 use Rattle.boards.specs.Feed.{opened, fit, feed}
 
@@ -44,7 +42,7 @@ room l = min (length l.places) (length l.numbers)
 
 -- A CALL: what it answers, and what was lent to it as it leaves that
 pub record FeedCall : Type 0 where
-  pub answer : Feeding
+  pub answer : FeedAnswer Watch
   pub left : Lent
 
 -- what refuses a call of a board of k codes after n bytes: 6, 7
@@ -84,7 +82,7 @@ unfoldable pub feed_call : (buffer : List ℕ) → Watch → Lent → FeedCall
 feed_call bs x l = call_by (feed_refusal bs x l) (named bs) x l
 
 -- what `feed` promises, its contract: the call is that one
-pub record FeedSays (buffer : List ℕ) (x : Watch) (before : Lent) (answer : Feeding) (after : Lent) : Type 0 where
+pub record FeedSays (buffer : List ℕ) (x : Watch) (before : Lent) (answer : FeedAnswer Watch) (after : Lent) : Type 0 where
   pub is : record { answer = answer; left = after } ≡ feed_call buffer x before
 
 -- A RUN from an opening on: every call gets the buffer and the watch answered before. Told is what each call wrote: the spots of the two lists, pair by pair

@@ -1,10 +1,11 @@
 -- What the words of the codes' first bytes hold, and what passing over bytes needs and promises. Assumes nothing: these are definitions.
-use Rattle.std.specs.Prelude.{◌≡◌, Bool, true, ◌&&◌, ◌||◌, List, ◌≢◌, ℕ, ◌+◌, ◌*◌, ◌-◌, ◌≤◌, ◌<◌, ltb, eqb, length, get_or}
+use Rattle.std.specs.Prelude.{◌≡◌, Bool, true, ◌&&◌, ◌||◌, List, ◌≢◌, ℕ, ◌+◌, ◌*◌, ◌-◌, ◌≤◌, ◌<◌, ltb, eqb, length, get_or, replicate}
 use Rattle.std.specs.Int.Bits.{bit_and}
 use Rattle.words.specs.Words.{Every, byte}
 use Rattle.bits.specs.Bits.{holds}
 use Rattle.starts.specs.Starts.{code, known, total, state}
-use Rattle.boards.specs.Tables.{part, Good, Offsets}
+use Rattle.boards.specs.declared.fronts.Fronts.{Fronts as FrontLists}
+use Rattle.boards.specs.Tables.{part, Offsets}
 
 -- so many first bytes every code has: at most 4, and at least 1 if no length is 0
 pub record Shortest (ls : List ℕ) (depth : ℕ) : Type 0 where
@@ -12,24 +13,15 @@ pub record Shortest (ls : List ℕ) (depth : ℕ) : Type 0 where
   pub within : (j : ℕ) → j < length ls → depth ≤ get_or ls j 0
   pub some : Every (λ l. 1 ≤ l) ls → 1 ≤ depth
 
--- ONE CODE, number j, whose bytes begin at s: its bit is put at byte q in row q, below `depth`
-pub record OnPut (words bs : List ℕ) (depth j s : ℕ) : Type 0 where
-  pub words_long : length words ≡ 1024
-  pub few : depth ≤ 4
-  pub number : j < 64
-  pub inside : s + depth ≤ length bs
-
-pub record CodePut (bs : List ℕ) (depth j s : ℕ) (a b : List ℕ) : Type 0 where
+-- ONE CODE, number j: its bit is put at byte q in row q, below `depth`
+pub record CodePut (w : List ℕ) (depth j : ℕ) (a b : List ℕ) : Type 0 where
   pub each : (q c r : ℕ) → c < 256 →
-      holds (get_or b (256 * q + c) 0) r ≡ holds (get_or a (256 * q + c) 0) r || (ltb q depth && eqb (get_or bs (s + q) 0) c) && eqb r (63 - j)
+      holds (get_or b (256 * q + c) 0) r ≡ holds (get_or a (256 * q + c) 0) r || (ltb q depth && eqb (get_or w q 0) c) && eqb r (63 - j)
   pub long : length b ≡ length a
 
--- ALL CODES, in words without bits
-pub record OnFronts (ls bs words starts : List ℕ) : Type 0 where
-  pub good : Good ls bs
-  pub none : (c : ℕ) → get_or words c 0 ≡ 0
-  pub words_long : length words ≡ 1024
-  pub starts_long : length starts ≡ 64
+-- ALL CODES, in new lists, which have nothing in them
+abbrev pub new_fronts : FrontLists
+new_fronts = record { words = replicate 1024 0; starts = replicate 64 0; depth = 0 }
 
 -- code number j has bit 63 - j, so that the highest bit is the first code's
 pub record AllPut (ws : List (List ℕ)) (depth : ℕ) (words starts : List ℕ) : Type 0 where
@@ -38,18 +30,13 @@ pub record AllPut (ws : List (List ℕ)) (depth : ℕ) (words starts : List ℕ)
   pub words_long : length words ≡ 1024
   pub starts_long : length starts ≡ 64
 
-pub record FilledFrom (from : ℕ) (a b : List ℕ) : Type 0 where
-  pub before : (c : ℕ) → c < from → get_or b c 0 ≡ get_or a c 0
-  pub all : (c r : ℕ) → from ≤ c → c < length b → r < 64 → holds (get_or b c 0) r ≡ true
-  pub long : length b ≡ length a
-
 -- THE WORDS: in the rows below `depth` a code's bit is set at its byte of that number, in the others everywhere
-pub record Fronts (ws : List (List ℕ)) (depth : ℕ) (words starts : List ℕ) : Type 0 where
-  pub put : AllPut ws depth words starts
-  pub all : (q c j : ℕ) → depth ≤ q → q < 4 → c < 256 → j < 64 → holds (get_or words (256 * q + c) 0) (63 - j) ≡ true
-  pub some : 1 ≤ depth
-  pub most : depth ≤ 4
-  pub within : (j : ℕ) → j < length ws → depth ≤ length (code ws j)
+pub record Fronts (ws : List (List ℕ)) (f : FrontLists) : Type 0 where
+  pub put : AllPut ws f.depth f.words f.starts
+  pub all : (q c j : ℕ) → f.depth ≤ q → q < 4 → c < 256 → j < 64 → holds (get_or f.words (256 * q + c) 0) (63 - j) ≡ true
+  pub some : 1 ≤ f.depth
+  pub most : f.depth ≤ 4
+  pub within : (j : ℕ) → j < length ws → f.depth ≤ length (code ws j)
   pub codes_few : length ws ≤ 64
   pub few : total ws ≤ 2000
 
@@ -67,10 +54,6 @@ common_at ws cs i = bit_and (pair_at ws cs i) (bit_and (word_at ws cs i 2) (word
 abbrev pub NoneBegins : (words piece : List ℕ) → (i : ℕ) → (r : Bool) → Type 0
 NoneBegins ws cs i r = r ≡ true → (q : ℕ) → q < 4 → common_at ws cs (i + q) ≡ 0
 
-pub record OnPass (words piece : List ℕ) (from : ℕ) : Type 0 where
-  pub words_long : length words ≡ 1024
-  pub inside : from < length piece
-
 -- from one index on up to another, which is still inside, the words of the four bytes from each on have nothing in common
 pub record Passed (words piece : List ℕ) (from to : ℕ) : Type 0 where
   pub onward : from ≤ to
@@ -83,16 +66,16 @@ pub record Stopped (words piece : List ℕ) (from to : ℕ) : Type 0 where
   pub stops : to + 3 < length piece → common_at words piece to ≢ 0
 
 -- ENTERING: the first bytes at i begin a code, and lead to their state
-pub record Entering (ws : List (List ℕ)) (words starts : List ℕ) (depth : ℕ) (piece : List ℕ) (i : ℕ) : Type 0 where
-  pub fronts : Fronts ws depth words starts
+pub record Entering (ws : List (List ℕ)) (f : FrontLists) (piece : List ℕ) (i : ℕ) : Type 0 where
+  pub fronts : Fronts ws f
   pub inside : i + 3 < length piece
   pub bytes : (j : ℕ) → get_or piece j 0 < 256
-  pub begins : common_at words piece i ≢ 0
+  pub begins : common_at f.words piece i ≢ 0
 
-pub record OnEnter (words starts : List ℕ) (depth : ℕ) (piece : List ℕ) (i : ℕ) : Type 0 where
+pub record OnEnter (f : FrontLists) (piece : List ℕ) (i : ℕ) : Type 0 where
   pub ws : List (List ℕ)
-  pub entering : Entering ws words starts depth piece i
+  pub entering : Entering ws f piece i
 
-abbrev pub Enters : (words starts : List ℕ) → (depth : ℕ) → (piece : List ℕ) → (i r : ℕ) → Type 0
-Enters words ss d cs i r =
-    (ws : List (List ℕ)) → Entering ws words ss d cs i → let u = part i d cs in (known ws u ≡ true) × (r ≡ state ws u)
+abbrev pub Enters : FrontLists → (piece : List ℕ) → (i r : ℕ) → Type 0
+Enters f cs i r =
+    (ws : List (List ℕ)) → Entering ws f cs i → let u = part i f.depth cs in (known ws u ≡ true) × (r ≡ state ws u)

@@ -1,8 +1,7 @@
 -- TWO BOARDS JOINED: what the entry point `join` answers and leaves behind. Assumes nothing: these are definitions.
 use Rattle.std.specs.Prelude.{◌≡◌, ◌&&◌, ◌||◌, not, cond, List, [], ◌∷◌, ◌++◌, ℕ, ltb, eqb, length}
 use Rattle.words.specs.Words.{in_front}
-use Rattle.codes.specs.declared.Answer.{Answer}
-use Rattle.codes.specs.Refusals.{refused_if, first_refusal, answered}
+use Rattle.codes.specs.Refusals.{refused_if, first_refusal, answered, Answer}
 use Rattle.starts.specs.Starts.{total, is_code}
 use Rattle.boards.specs.Board.{most_codes, most_bytes, board_room, board, named, begins}
 

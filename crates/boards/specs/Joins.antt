@@ -1,8 +1,7 @@
 -- What is promised of joining two boards. Each statement is a type; docs/PROOFS.md names its proof. Assumes nothing.
 use Rattle.std.specs.Prelude.{◌≡◌, true, false, ◌||◌, List, ◌++◌, map, ◌≢◌, ◌↔◌, ℕ, ◌+◌, ◌*◌, ◌-◌, ◌≤◌, ◌<◌, length, take, drop}
 use Rattle.runs.specs.Calls.{Outcome}
-use Rattle.codes.specs.declared.Answer.{Answer}
-use Rattle.codes.specs.Refusals.{answer_refusal, answer_value}
+use Rattle.codes.specs.Refusals.{answer_refusal, answer_value, Answer}
 use Rattle.starts.specs.Starts.{code, total, is_code, number}
 use Rattle.starts.specs.Hits.{Hit, places_of, EveryHit}
 use Rattle.boards.specs.declared.Watch.{Watch}

@@ -5,7 +5,9 @@ pub mod Fronts
 pub mod Feed
 pub mod Entry
 pub mod Join
+pub mod Joined
 pub mod Inside
+pub mod Naming
 pub mod Promise
 pub mod Runs
 pub mod Joins

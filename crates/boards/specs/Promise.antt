@@ -3,8 +3,7 @@ use Rattle.std.specs.Prelude.{◌≡◌, true, false, List, [], ◌∷◌, ◌++
 use Rattle.words.specs.Words.{Every, in_front}
 use Rattle.runs.specs.Reading.{ending_refusal}
 use Rattle.automaton.specs.Costs.{sum}
-use Rattle.codes.specs.declared.Answer.{Answer}
-use Rattle.codes.specs.Refusals.{answer_refusal, answer_value}
+use Rattle.codes.specs.Refusals.{answer_refusal, answer_value, Answer}
 use Rattle.sheets.specs.Sheet as sheet
 use Rattle.starts.specs.Starts.{code, known, total, state, shorter}
 use Rattle.boards.specs.declared.Watch.{Watch}

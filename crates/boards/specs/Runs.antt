@@ -1,7 +1,7 @@
 -- What is promised of runs of a board's feeding calls. Each statement is a type; docs/PROOFS.md names its proof. Assumes nothing.
 use Rattle.std.specs.Prelude.{◌≡◌, true, List, [], ◌∷◌, ◌++◌, ◌≢◌, ◌↔◌, ℕ, suc, ◌+◌, ◌≤◌, ◌<◌, length, take, drop}
-use Rattle.runs.specs.declared.Ending.TheVariants.{PieceDone, Refused}
-use Rattle.runs.specs.Reading.{ending_refusal, ending_full}
+use Rattle.runs.specs.Answers.{Answer}
+use Rattle.runs.specs.Reading.{ending_refusal, ending_full, PieceDone, Refused}
 use Rattle.runs.specs.Calls.{Outcome}
 use Rattle.sheets.specs.Sheet as sheet
 use Rattle.finder.specs.Texts.{places}
@@ -9,7 +9,6 @@ use Rattle.finder.specs.Entry as finder
 use Rattle.starts.specs.Starts.{code, state, reached}
 use Rattle.starts.specs.Hits.{Hit, hits, places_of, EveryHit, Ordered}
 use Rattle.boards.specs.declared.Watch.{Watch}
-use Rattle.boards.specs.declared.Feeding.{Feeding}
 use Rattle.boards.specs.Board.{cut, accepted, board, named}
 use Rattle.boards.specs.Promise.{Spots}
 use Rattle.boards.specs.Feed.{opened, fit, feed}
@@ -75,7 +74,7 @@ unfoldable pub RunsGrow : Type 0
 RunsGrow =
     (buffer : List ℕ) →
     (feed_run buffer [] ≡ record { after = opened; bytes = []; told = [] })
-    × ((ls : List Lent) (l : Lent) (r : Feeding) (a : Lent) →
+    × ((ls : List Lent) (l : Lent) (r : Answer Watch) (a : Lent) →
     let q = feed_run buffer ls in
     FeedSays buffer q.after l r a →
     feed_run buffer (ls ++ (l ∷ []))

@@ -1,16 +1,23 @@
 -- What the lists of the tree and of the links hold, and what the functions that write and read them need and promise. Assumes nothing: these are definitions.
-use Rattle.std.specs.Prelude.{◌≡◌, Bool, true, false, ◌&&◌, not, cond, List, [], ◌∷◌, ◌++◌, ◌≢◌, ℕ, suc, ◌+◌, ◌*◌, ◌-◌, ◌≤◌, ◌<◌, ltb, eqb, length, get_or, set, take, drop}
+use Rattle.std.specs.Prelude.{◌≡◌, Bool, true, false, ◌&&◌, not, cond, List, [], ◌∷◌, ◌++◌, ◌≢◌, ℕ, suc, ◌+◌, ◌*◌, ◌-◌, ◌≤◌, ◌<◌, ltb, eqb, length, get_or, set, take, drop, replicate}
 use Rattle.words.specs.Words.{Every}
 use Rattle.bits.specs.Bits.{holds}
 use Rattle.automaton.specs.Costs.{sum}
 use Rattle.starts.specs.Starts.{code, known, total, offset, state, fallback, is_code, number, nearest, shorter}
+use Rattle.boards.specs.declared.given.Codes.{Codes}
+use Rattle.boards.specs.declared.tree.Tree.{Tree as TreeLists}
+use Rattle.boards.specs.declared.links.Links.{Links as LinkLists}
 use Rattle.boards.specs.Board.{cut}
 
 -- n bytes from s on
 unfoldable pub part : (s n : ℕ) → List ℕ → List ℕ
 part s n bs = take n (drop s bs)
 
--- codes that a board can have
+-- the codes of lengths and bytes
+abbrev pub codes_of : Codes → List (List ℕ)
+codes_of k = cut k.lengths.now k.bytes.now
+
+-- lengths and bytes that a board can have
 pub record Good (ls bs : List ℕ) : Type 0 where
   pub some : 1 ≤ length ls
   pub codes : length ls ≤ 64
@@ -18,15 +25,15 @@ pub record Good (ls bs : List ℕ) : Type 0 where
   pub bytes : length bs ≤ 2000
   pub filled : Every (λ l. 1 ≤ l) ls
 
--- THE TREE in lists
-pub record TreeLists : Type 0 where
-  pub next : List ℕ
-  pub forks : List ℕ
-  pub keys : List ℕ
-  pub heads : List ℕ
-
+-- THE TREE in lists: a new one has nothing in it, that of no codes 256 behind every start
 abbrev pub tree : (next forks keys heads : List ℕ) → TreeLists
 tree n a b t = record { next = n; forks = a; keys = b; heads = t }
+
+abbrev pub new_tree : TreeLists
+new_tree = tree (replicate 2001 0) (replicate 2001 0) (replicate 256 0) (replicate 64 0)
+
+abbrev pub empty_tree : TreeLists
+empty_tree = tree (replicate 2001 256) (replicate 2001 0) (replicate 256 0) (replicate 64 0)
 
 -- room for any board's
 pub record Roomy (t : TreeLists) : Type 0 where
@@ -70,18 +77,17 @@ ToldTree t g P = (ws : List (List ℕ)) (u : List ℕ) → Tree ws t → known w
 unfoldable pub child_of : (ws : List (List ℕ)) → (u : List ℕ) → (c : ℕ) → ℕ
 child_of ws u c = cond (known ws (u ++ (c ∷ []))) (state ws (u ++ (c ∷ []))) 0
 
--- LABELS: the bytes of a code of l bytes at s stand behind one another in b, which was a
-pub record Labelled (s l : ℕ) (bs a b : List ℕ) : Type 0 where
-  pub inner : (i : ℕ) → 1 ≤ i → i < l → get_or b (s + i) 0 ≡ get_or bs (s + i) 0
+-- LABELS: the bytes of a code w that begins at s stand behind one another in b, which was a
+pub record Labelled (s : ℕ) (w a b : List ℕ) : Type 0 where
+  pub inner : (i : ℕ) → 1 ≤ i → i < length w → get_or b (s + i) 0 ≡ get_or w i 0
   pub before : (g : ℕ) → g ≤ s → get_or b g 0 ≡ get_or a g 0
-  pub behind : (g : ℕ) → s + l ≤ g → get_or b g 0 ≡ get_or a g 0
+  pub behind : (g : ℕ) → s + length w ≤ g → get_or b g 0 ≡ get_or a g 0
   pub long : length b ≡ length a
 
--- FOLLOWING a code as far as the tree goes: d of its bytes, to state g
-pub record OnFollow (t : TreeLists) (bs : List ℕ) (s l : ℕ) : Type 0 where
+-- FOLLOWING a code w as far as the tree goes: d of its bytes, to state g
+pub record OnFollow (t : TreeLists) : Type 0 where
   pub ws : List (List ℕ)
   pub is_tree : Tree ws t
-  pub inside : s + l ≤ length bs
 
 pub record Went (ws : List (List ℕ)) (w : List ℕ) (g d : ℕ) : Type 0 where
   pub within : d ≤ length w
@@ -89,8 +95,8 @@ pub record Went (ws : List (List ℕ)) (w : List ℕ) (g d : ℕ) : Type 0 where
   pub state_is : g ≡ state ws (take d w)
   pub stops : d < length w → known ws (take (suc d) w) ≡ false
 
-abbrev pub Follows : (t : TreeLists) → (bs : List ℕ) → (s l g d : ℕ) → Type 0
-Follows t bs s l g d = (ws : List (List ℕ)) → Tree ws t → Went ws (part s l bs) g d
+abbrev pub Follows : (t : TreeLists) → (w : List ℕ) → (g d : ℕ) → Type 0
+Follows t w g d = (ws : List (List ℕ)) → Tree ws t → Went ws w g d
 
 -- ONE CODE MORE. At each start's state its number, if it is a code, and 0 everywhere else
 pub record Ended (ws : List (List ℕ)) (ends : List ℕ) : Type 0 where
@@ -98,43 +104,35 @@ pub record Ended (ws : List (List ℕ)) (ends : List ℕ) : Type 0 where
   pub none : (g : ℕ) → ((u : List ℕ) → known ws u ≡ true → state ws u ≢ g) → get_or ends g 0 ≡ 0
   pub long : 2001 ≤ length ends
 
-pub record Adding (ws : List (List ℕ)) (t : TreeLists) (ends bs : List ℕ) (j s l : ℕ) : Type 0 where
+pub record Adding (ws : List (List ℕ)) (t : TreeLists) (ends w : List ℕ) (j s : ℕ) : Type 0 where
   pub is_tree : Tree ws t
   pub ended : Ended ws ends
   pub number_is : j ≡ length ws
   pub offset_is : s ≡ total ws
-  pub some : 1 ≤ l
-  pub inside : s + l ≤ length bs
-  pub few : s + l ≤ 2000
+  pub some : 1 ≤ length w
+  pub few : s + length w ≤ 2000
   pub codes_few : j < 64
 
-pub record OnCode (t : TreeLists) (ends bs : List ℕ) (j s l : ℕ) : Type 0 where
+pub record OnCode (t : TreeLists) (ends w : List ℕ) (j s : ℕ) : Type 0 where
   pub ws : List (List ℕ)
-  pub adding : Adding ws t ends bs j s l
+  pub adding : Adding ws t ends w j s
 
 pub record Added (ws : List (List ℕ)) (w : List ℕ) (t : TreeLists) (ends : List ℕ) (r : Bool) : Type 0 where
   pub new : r ≡ not (is_code ws w)
   pub is_tree : r ≡ true → Tree (ws ++ (w ∷ [])) t
   pub ended : r ≡ true → Ended (ws ++ (w ∷ [])) ends
 
-abbrev pub Adds : (t t' : TreeLists) → (ends ends' bs : List ℕ) → (j s l : ℕ) → Bool → Type 0
-Adds t t' e e' bs j s l r = (ws : List (List ℕ)) → Adding ws t e bs j s l → Added ws (part s l bs) t' e' r
+abbrev pub Adds : (t t' : TreeLists) → (ends ends' w : List ℕ) → (j s : ℕ) → Bool → Type 0
+Adds t t' e e' w j s r = (ws : List (List ℕ)) → Adding ws t e w j s → Added ws w t' e' r
 
--- ALL CODES, into lists that have none
-pub record OnCodes (ls bs : List ℕ) (t : TreeLists) (ends starts : List ℕ) : Type 0 where
-  pub good : Good ls bs
-  pub is_tree : Tree [] t
-  pub ended : Ended [] ends
-  pub starts_long : 64 ≤ length starts
-
--- where each code begins
+-- ALL CODES: where each begins
 abbrev pub Offsets : (ws : List (List ℕ)) → (starts : List ℕ) → Type 0
 Offsets ws ss = (j : ℕ) → j < length ws → get_or ss j 0 ≡ offset ws j
 
-pub record AllAdded (r : Bool) (ws : List (List ℕ)) (t : TreeLists) (ends starts : List ℕ) : Type 0 where
-  pub is_tree : r ≡ true → Tree ws t
-  pub ended : r ≡ true → Ended ws ends
-  pub offsets : r ≡ true → Offsets ws starts
+pub record AllAdded (ws : List (List ℕ)) (t : TreeLists) (ends starts : List ℕ) : Type 0 where
+  pub is_tree : Tree ws t
+  pub ended : Ended ws ends
+  pub offsets : Offsets ws starts
 
 -- THE LINKS of the starts of at most n bytes
 pub record Linked (ws : List (List ℕ)) (n : ℕ) (links : List ℕ) : Type 0 where
@@ -155,13 +153,11 @@ ToldLinks t links g P =
     (ws : List (List ℕ)) (u : List ℕ) → Tree ws t → known ws u ≡ true → state ws u ≡ g → Linked ws (length u) links → P ws u
 
 -- THE LISTS OF LINKS: failure links and lengths, nearest codes, and for each code the longest shorter one
-pub record LinkLists : Type 0 where
-  pub links : List ℕ
-  pub nearest : List ℕ
-  pub shorter : List ℕ
-
 abbrev pub tables : (links nearest shorter : List ℕ) → LinkLists
 tables a b c = record { links = a; nearest = b; shorter = c }
+
+abbrev pub no_links : LinkLists
+no_links = tables (replicate 4002 0) (replicate 2001 0) (replicate 64 0)
 
 -- one state's are put: f is its failure link
 pub record OnState (k : LinkLists) (g f depth : ℕ) : Type 0 where
@@ -232,14 +228,11 @@ pub record Leveling (ws : List (List ℕ)) (k : LinkLists) (at : List ℕ) (live
   pub level : Level ws depth k
   pub states : (j : ℕ) → j < length ws → depth < length (code ws j) → get_or at j 0 ≡ state ws (take depth (code ws j))
   pub lives : (j : ℕ) → holds live j ≡ ltb j (length ws) && ltb depth (length (code ws j))
-  pub at_long : 64 ≤ length at
 
-pub record OnLevel (ls bs starts : List ℕ) (t : TreeLists) (k : LinkLists) (at : List ℕ) (live depth : ℕ) : Type 0 where
-  pub good : Good ls bs
-  pub is_tree : Tree (cut ls bs) t
-  pub offsets : Offsets (cut ls bs) starts
-  pub starts_long : 64 ≤ length starts
-  pub leveling : Leveling (cut ls bs) k at live depth
+pub record OnLevel (ws : List (List ℕ)) (starts : List ℕ) (t : TreeLists) (k : LinkLists) (at : List ℕ) (live depth : ℕ) : Type 0 where
+  pub is_tree : Tree ws t
+  pub offsets : Offsets ws starts
+  pub leveling : Leveling ws k at live depth
 
 -- the word whose bits below k are set
 abbrev pub FirstBits : (k r : ℕ) → Type 0
@@ -250,9 +243,7 @@ pub record AllLinked (ws : List (List ℕ)) (k : LinkLists) : Type 0 where
   pub done : (u : List ℕ) → known ws u ≡ true → Done ws k u
   pub blank : Blank ws k
 
-pub record OnLevels (ls bs starts : List ℕ) (t : TreeLists) (k : LinkLists) : Type 0 where
-  pub good : Good ls bs
-  pub is_tree : Tree (cut ls bs) t
-  pub offsets : Offsets (cut ls bs) starts
-  pub starts_long : 64 ≤ length starts
-  pub level : Level (cut ls bs) 0 k
+pub record OnLevels (ws : List (List ℕ)) (starts : List ℕ) (t : TreeLists) (k : LinkLists) : Type 0 where
+  pub is_tree : Tree ws t
+  pub offsets : Offsets ws starts
+  pub level : Level ws 0 k

@@ -3,8 +3,9 @@ use Rattle.std.specs.Prelude.{◌≡◌, false, List, [], ◌∷◌, ◌++◌, �
 use Rattle.words.specs.Words.{Every, in_front}
 use Rattle.sheets.specs.Sheet as sheet
 use Rattle.starts.specs.Starts.{twice}
-use Rattle.boards.specs.Board.{cut, board}
-use Rattle.boards.specs.Tables.{Good, LinkLists, AllLinked}
+use Rattle.boards.specs.declared.links.Links.{Links as LinkLists}
+use Rattle.boards.specs.Board.{board}
+use Rattle.boards.specs.Tables.{AllLinked}
 
 -- a list b that was a, with xs written from place k on
 pub record Spliced (k : ℕ) (xs a b : List ℕ) : Type 0 where
@@ -25,16 +26,10 @@ unfoldable pub rows_in : (links nearest : List ℕ) → (count : ℕ) → List �
 rows_in ls ns zero = []
 rows_in ls ns (suc g) = rows_in ls ns g ++ (sheet.number 2 (get_or ls (2 * g) 0) ++ (get_or ns g 0 ∷ []))
 
-pub record OnRows (links nearest : List ℕ) (count : ℕ) (a : List ℕ) (at : ℕ) : Type 0 where
-  pub links_long : 2 * count ≤ length links
-  pub nearest_long : count ≤ length nearest
-  pub room : at + 3 * count ≤ length a
-
 -- THE WHOLE BOARD of codes of which none stands there twice
-pub record OnBoard (ls bs : List ℕ) (k : LinkLists) (a : List ℕ) : Type 0 where
-  pub good : Good ls bs
-  pub once : twice (cut ls bs) ≡ false
-  pub linked : AllLinked (cut ls bs) k
+pub record OnBoard (ws : List (List ℕ)) (k : LinkLists) (a : List ℕ) : Type 0 where
+  pub once : twice ws ≡ false
+  pub linked : AllLinked ws k
   pub room : 8196 ≤ length a
 
 pub record BoardMade (ws : List (List ℕ)) (size : ℕ) (a b : List ℕ) : Type 0 where

@@ -1,217 +1,135 @@
 // Two boards joined: the codes of both are listed and prepared afresh.
-ghost use Rattle.std.specs.Prelude.{◌≡◌, [], ◌∷◌, ◌≤◌, length};
-ghost use Rattle.words.specs.Words.{same};
-ghost use Rattle.automaton.specs.Costs.{sum};
+ghost use Rattle.std.specs.Prelude.{◌≡◌, not, [], ◌∷◌, ◌≤◌, IfOk, length};
+ghost use Rattle.runs.specs.Refusals.{refusal_of};
+ghost use Rattle.codes.specs.Refusals.{refused_if, told};
 ghost use Rattle.starts.specs.Starts.{is_code};
-ghost use Rattle.boards.specs.Board.{cut, begins};
-ghost use Rattle.boards.specs.Tables.{Good};
+ghost use Rattle.boards.specs.Board.{begins};
+ghost use Rattle.boards.specs.Tables.{codes_of};
 ghost use Rattle.boards.specs.Join.{joined, JoinSays};
-ghost use Rattle.boards.specs.Inside.{OnNamed, BoardRead, RoomFor, Lists, Prepares};
+ghost use Rattle.boards.specs.Naming.{OnNamed};
+ghost use Rattle.boards.specs.Joined.{Listed, Lists, RoomFor, Prepares};
 
+use crate::given::Codes;
 use crate::layout::put_bytes;
-use crate::named::read_codes;
-use crate::{long, prepare};
-use codes::Answer;
-use sheets::{same_front, wide};
+use crate::named::Named;
+use crate::prepare;
+use runs::Refusal;
+use sheets::same_front;
 
 // Whether the buffer begins with the board of these codes, which it names: they are prepared afresh and compared.
-fn is_prepared(board: &[u8], lengths: &[u32], bytes: &[u8]) -> bool
-    requires { OnNamed board.now lengths.now bytes.now }
+fn is_prepared(board: &[u8], codes: Codes) -> bool
+    requires { OnNamed board.now codes }
     ensures { result ≡ begins board.now }
 {
-    let mut area = [0u8; 32768];
-    let answer = prepare(lengths, bytes, &mut area);
-    if answer.refusal() != 0 {
+    let mut area = [0; 32768];
+    let Ok(size) = prepare(codes.lengths, codes.bytes, &mut area) else {
         return false;
-    }
-    same_front(board, &area, answer.value() as usize)
+    };
+    same_front(board, &area, size as usize)
 }
 
-// Reads the lengths of a board's codes; where the codes end, 0 if the buffer does not begin with a board.
-fn read_board(board: &[u8], lengths: &mut [u32]) -> usize
-    requires { 64 ≤ length lengths.old }
-    ensures { BoardRead board.now lengths.old lengths.new result }
+// The codes of a board; refused if the buffer does not begin with one.
+fn read_board(board: &[u8]) -> Result<Named<'_>, Refusal>
+    ensures refusal { refusal_of result ≡ refused_if 4 (not (begins board.now)) }
+    ensures ok { IfOk result (λ named. named.board.now ≡ board.now) }
 {
-    let end = read_codes(board, lengths);
-    if end == 0 {
-        return 0;
+    let Some(named) = Named::read(board) else {
+        return Err(Refusal::NotPrepared);
+    };
+    if !is_prepared(board, named.codes()) {
+        return Err(Refusal::NotPrepared);
     }
-    let k = wide(board[0]);
-    if !is_prepared(board, &lengths[0..k], &board[1 + 2 * k..end]) {
-        return 0;
-    }
-    end
+    Ok(named)
 }
 
-// Whether two words are equal.
-fn is_same(a: &[u8], b: &[u8]) -> bool
-    ensures { result ≡ same a.now b.now }
-{
-    if a.len() != b.len() {
-        return false;
-    }
-    same_front(a, b, a.len())
-}
-
-// Whether a word is one of the codes that stand in `bytes` with these lengths.
-fn has_code(lengths: &[u32], bytes: &[u8], word: &[u8]) -> bool
-    requires { sum lengths.now ≤ length bytes.now }
-    ensures { result ≡ is_code (cut lengths.now bytes.now) word.now }
+// Whether a word is one of the codes. Where a code begins is kept beside the lengths: an iterator that cuts the bytes would need its own proof of it.
+fn has_code(codes: Codes, word: &[u8]) -> bool
+    ensures { result ≡ is_code (codes_of codes.entry) word.now }
 {
     let mut at = 0;
-    let mut i = 0;
-    while i < lengths.len() {
-        let l = long(lengths[i]);
-        if is_same(&bytes[at..at + l], word) {
+    for &length in codes.lengths {
+        let end = at + length as usize;
+        if &codes.bytes[at..end] == word {
             return true;
         }
-        at += l;
-        i += 1;
+        at = end;
     }
     false
 }
 
-// How many codes are listed, and where their bytes end.
-#[derive(Clone, Copy)]
-struct Extent {
-    codes: usize,
+// A list of codes, with room for those of two boards: their lengths, and their bytes one after the other, in
+// arrays with how much of them is used, since no memory is asked for.
+#[derive(Drop)]
+struct List {
+    lengths: [u32; 128],
+    bytes: [u8; 4000],
+    count: usize,
     end: usize,
 }
 
-// Lists a code behind those that are listed, unless it is one of the first codes, which stand in `first` with the lengths `firsts`.
-fn list_code(
-    firsts: &[u32],
-    first: &[u8],
-    word: &[u8],
-    lengths: &mut [u32],
-    bytes: &mut [u8],
-    codes: usize,
-    end: usize,
-) -> Extent
-    requires { (sum firsts.now ≤ length first.now)
-        × (length word.now ≤ 4294967295)
-        × RoomFor 1 (length word.now) lengths.old bytes.old codes end }
-    ensures { Lists (cut firsts.now first.now) (word.now ∷ []) lengths.old bytes.old codes end
-        lengths.new bytes.new result.codes result.end }
-{
-    if has_code(firsts, first, word) {
-        return Extent {
-            codes: codes,
-            end: end,
-        };
-    }
-    lengths[codes] = word.len() as u32;
-    put_bytes(word, bytes, end);
-    Extent {
-        codes: codes + 1,
-        end: end + word.len(),
-    }
-}
-
-// Lists, behind those that are listed, the codes in `second`, of the lengths `seconds`, that the first ones lack.
-fn list_codes(
-    firsts: &[u32],
-    first: &[u8],
-    seconds: &[u32],
-    second: &[u8],
-    lengths: &mut [u32],
-    bytes: &mut [u8],
-    codes: usize,
-    end: usize,
-) -> Extent
-    requires { (sum firsts.now ≤ length first.now)
-        × (sum seconds.now ≤ length second.now)
-        × RoomFor (length seconds.now) (sum seconds.now) lengths.old bytes.old codes end }
-    ensures { Lists (cut firsts.now first.now) (cut seconds.now second.now)
-        lengths.old bytes.old codes end lengths.new bytes.new result.codes result.end }
-{
-    let mut count = codes;
-    let mut to = end;
-    let mut at = 0;
-    let mut i = 0;
-    while i < seconds.len() {
-        let l = long(seconds[i]);
-        let r = list_code(
-            firsts,
-            first,
-            &second[at..at + l],
+impl List {
+    // The codes of a board.
+    fn of(codes: Codes) -> List
+        ensures listed { Listed (codes_of codes.entry) result }
+        ensures few { (result.count ≤ 64) × (result.end ≤ 2000) }
+    {
+        let count = codes.lengths.len();
+        let end = codes.bytes.len();
+        let mut lengths = [0; 128];
+        let mut bytes = [0; 4000];
+        lengths[..count].copy_from_slice(codes.lengths);
+        put_bytes(codes.bytes, &mut bytes, 0);
+        List {
             lengths,
             bytes,
             count,
-            to,
-        );
-        count = r.codes;
-        to = r.end;
-        at += l;
-        i += 1;
+            end,
+        }
     }
-    Extent {
-        codes: count,
-        end: to,
+
+    // One code more.
+    fn push(&mut self, code: &[u8])
+        requires { RoomFor 1 (length code.now) self.old }
+        ensures { Lists [] (code.now ∷ []) self.old self.new }
+    {
+        self.lengths[self.count] = code.len() as u32;
+        put_bytes(code, &mut self.bytes, self.end);
+        self.count += 1;
+        self.end += code.len();
+    }
+
+    // The second codes that the first ones lack, each from where it begins.
+    fn push_lacking(&mut self, first: Codes, second: Codes)
+        requires { RoomFor (length second.lengths.now) (length second.bytes.now) self.old }
+        ensures { Lists (codes_of first.entry) (codes_of second.entry) self.old self.new }
+    {
+        let mut at = 0;
+        for &length in second.lengths {
+            let end = at + length as usize;
+            let code = &second.bytes[at..end];
+            if !has_code(first, code) {
+                self.push(code);
+            }
+            at = end;
+        }
     }
 }
 
 // The board of the first codes, in their order, and of the second ones that they lack.
-fn join_codes(
-    firsts: &[u32],
-    first: &[u8],
-    seconds: &[u32],
-    second: &[u8],
-    buffer: &mut [u8],
-) -> Answer
-    requires { Good firsts.now first.now × Good seconds.now second.now }
-    ensures { Prepares (joined (cut firsts.now first.now) (cut seconds.now second.now)) result
-        buffer.old buffer.new }
+fn join_codes(first: Codes, second: Codes, buffer: &mut [u8]) -> Result<u64, Refusal>
+    ensures { Prepares (joined (codes_of first.entry) (codes_of second.entry)) (told result) buffer.old buffer.new }
 {
-    let mut lengths = [0u32; 128];
-    let mut bytes = [0u8; 4000];
-    let own = list_codes(
-        &firsts[0..0],
-        &first[0..0],
-        firsts,
-        first,
-        &mut lengths,
-        &mut bytes,
-        0,
-        0,
-    );
-    let all = list_codes(
-        firsts,
-        first,
-        seconds,
-        second,
-        &mut lengths,
-        &mut bytes,
-        own.codes,
-        own.end,
-    );
-    let count = all.codes;
-    let end = all.end;
-    prepare(&lengths[0..count], &bytes[0..end], buffer)
+    let mut list = List::of(first);
+    list.push_lacking(first, second);
+    prepare(&list.lengths[..list.count], &list.bytes[..list.end], buffer)
 }
 
 // The board of the first board's codes, in their order, and of those of the second that the first lacks, written to the third buffer's start: its length in
 // bytes. A refusal changes nothing.
-pub fn join(first: &[u8], second: &[u8], buffer: &mut [u8]) -> Answer
-    ensures { JoinSays first.now second.now result buffer.old buffer.new }
+pub fn join(first: &[u8], second: &[u8], buffer: &mut [u8]) -> Result<u64, Refusal>
+    ensures { JoinSays first.now second.now (told result) buffer.old buffer.new }
 {
-    let mut firsts = [0u32; 64];
-    let first_end = read_board(first, &mut firsts);
-    if first_end == 0 {
-        return Answer::Refused(4);
-    }
-    let mut seconds = [0u32; 64];
-    let second_end = read_board(second, &mut seconds);
-    if second_end == 0 {
-        return Answer::Refused(4);
-    }
-    let j = wide(first[0]);
-    let k = wide(second[0]);
-    join_codes(
-        &firsts[0..j],
-        &first[1 + 2 * j..first_end],
-        &seconds[0..k],
-        &second[1 + 2 * k..second_end],
-        buffer,
-    )
+    let first = read_board(first)?;
+    let second = read_board(second)?;
+    join_codes(first.codes(), second.codes(), buffer)
 }

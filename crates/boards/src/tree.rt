@@ -2,48 +2,23 @@
 // off there. The starts within the rest of it follow one another in the code itself: `next` has the byte behind each, 256 at a code's end. Code number j, from
 // 0, branches off at the state g where bit j of `forks[g]` is set, by the byte c where bit j of `keys[c]` is, and to the state `heads[j]`. So a child is found
 // by two looks, however many codes branch off at one state.
-ghost use Rattle.std.specs.Prelude.{◌≡◌, not, ◌+◌, ◌≤◌, ◌<◌, length};
+ghost use Rattle.std.specs.Prelude.{◌≡◌, [], ◌+◌, ◌<◌, OnOk, length};
+ghost use Rattle.runs.specs.Refusals.{refusal_of};
+ghost use Rattle.codes.specs.Refusals.{refused_if};
 ghost use Rattle.starts.specs.Starts.{twice};
-ghost use Rattle.boards.specs.Board.{cut};
-ghost use Rattle.boards.specs.Tables.{tree, OnTree, ToldTree, child_of, Labelled, OnFollow, Follows, OnCode, Adds, OnCodes, AllAdded};
+ghost use Rattle.boards.specs.Tables.{codes_of, new_tree, OnTree, ToldTree, child_of, Labelled, OnFollow, Follows, OnCode, Adds, Ended, AllAdded};
 
-use crate::{index, long};
+use crate::given::Codes;
 use bits::{top, with_bit};
-use sheets::wide;
+use runs::Refusal;
 
-// The state of the start of state g and one byte more; 0 if there is none.
-pub(crate) fn child(
-    next: &[u16],
-    forks: &[u64],
-    keys: &[u64],
-    heads: &[u16],
-    g: usize,
-    byte: u8,
-) -> usize
-    requires { OnTree (tree next.now forks.now keys.now heads.now) g }
-    ensures { ToldTree (tree next.now forks.now keys.now heads.now) g (λ ws u. result ≡ child_of ws u byte) }
-{
-    let c = wide(byte);
-    if index(next[g]) == c {
-        return g + 1;
-    }
-    let both = forks[g] & keys[c];
-    if both == 0 {
-        return 0;
-    }
-    index(heads[top(both)])
-}
-
-// The bytes of a code of l bytes at s, each behind the one before it.
-fn label_code(next: &mut [u16], bytes: &[u8], s: usize, l: usize)
-    requires { (s + l ≤ length bytes.now) × (s + l < length next.old) }
-    ensures { Labelled s l bytes.now next.old next.new }
-{
-    let mut i = 1;
-    while i < l {
-        next[s + i] = bytes[s + i] as u16;
-        i += 1;
-    }
+// The tree, with room for any board's codes.
+#[derive(Drop)]
+pub(crate) struct Tree {
+    next: [u16; 2001],
+    forks: [u64; 2001],
+    keys: [u64; 256],
+    heads: [u16; 64],
 }
 
 // How far a code is followed: the state, and the number of its bytes.
@@ -53,95 +28,109 @@ struct Followed {
     depth: usize,
 }
 
-// Follows the code of l bytes at s as far as the tree goes.
-fn follow(
-    next: &[u16],
-    forks: &[u64],
-    keys: &[u64],
-    heads: &[u16],
-    bytes: &[u8],
-    s: usize,
-    l: usize,
-) -> Followed
-    requires { OnFollow (tree next.now forks.now keys.now heads.now) bytes.now s l }
-    ensures { Follows (tree next.now forks.now keys.now heads.now) bytes.now s l result.state result.depth }
-{
-    let mut g = 0;
-    let mut d = 0;
-    while d < l {
-        let h = child(next, forks, keys, heads, g, bytes[s + d]);
-        if h == 0 {
-            return Followed { state: g, depth: d };
+impl Tree {
+    // A tree without anything in it.
+    pub(crate) fn new() -> Tree
+        ensures { result ≡ new_tree }
+    {
+        Tree {
+            next: [0; 2001], // not 256 already: lists of zeros are not copied when the tree is handed over
+            forks: [0; 2001],
+            keys: [0; 256],
+            heads: [0; 64],
         }
-        g = h;
-        d += 1;
     }
-    Followed { state: g, depth: d }
-}
 
-// Adds code number j, of l bytes at s, to the tree of those before it; its number, from 1, stands in `ends` at its state. False if it is one of them.
-fn add_code(
-    next: &mut [u16],
-    forks: &mut [u64],
-    keys: &mut [u64],
-    heads: &mut [u16],
-    ends: &mut [u8],
-    bytes: &[u8],
-    j: usize,
-    s: usize,
-    l: usize,
-) -> bool
-    requires { OnCode (tree next.old forks.old keys.old heads.old) ends.old bytes.now j s l }
-    ensures { Adds
-        (tree next.old forks.old keys.old heads.old)
-        (tree next.new forks.new keys.new heads.new)
-        ends.old ends.new bytes.now j s l result }
-{
-    let w = follow(next, forks, keys, heads, bytes, s, l);
-    label_code(next, bytes, s, l);
-    let g = w.state;
-    let d = w.depth;
-    let mut end = g;
-    if d < l {
-        let c = wide(bytes[s + d]);
-        forks[g] = with_bit(forks[g], j);
-        keys[c] = with_bit(keys[c], j);
-        heads[j] = (s + d + 1) as u16;
-        end = s + l;
+    // The state of the start of state g and one byte more; 0, which is the state of no byte and so no child, if there is none. No Option, since that is how
+    // `child_of` says it, and `link_byte` takes a child that it knows to be there.
+    pub(crate) fn child(&self, g: usize, byte: u8) -> usize
+        requires { OnTree self.now g }
+        ensures { ToldTree self.now g (λ ws u. result ≡ child_of ws u byte) }
+    {
+        let c = usize::from(byte);
+        if usize::from(self.next[g]) == c {
+            return g + 1;
+        }
+        let both = self.forks[g] & self.keys[c];
+        if both == 0 {
+            return 0;
+        }
+        usize::from(self.heads[top(both)])
     }
-    if ends[end] != 0 {
-        return false;
-    }
-    ends[end] = (j + 1) as u8;
-    true
-}
 
-// The tree of all codes, into lists that have none; `starts` gets where each begins. False if a code stands there twice.
-pub(crate) fn add_codes(
-    lengths: &[u32],
-    bytes: &[u8],
-    next: &mut [u16],
-    forks: &mut [u64],
-    keys: &mut [u64],
-    heads: &mut [u16],
-    ends: &mut [u8],
-    starts: &mut [usize],
-) -> bool
-    requires { OnCodes lengths.now bytes.now (tree next.old forks.old keys.old heads.old) ends.old starts.old }
-    ensures { (result ≡ not (twice (cut lengths.now bytes.now)))
-        × AllAdded result (cut lengths.now bytes.now)
-        (tree next.new forks.new keys.new heads.new) ends.new starts.new }
-{
-    let mut j = 0;
-    let mut s = 0;
-    while j < lengths.len() {
-        let l = long(lengths[j]);
-        starts[j] = s;
-        if !add_code(next, forks, keys, heads, ends, bytes, j, s, l) {
+    // Follows a code as far as the tree goes.
+    fn follow(&self, code: &[u8]) -> Followed
+        requires { OnFollow self.now }
+        ensures { Follows self.now code.now result.state result.depth }
+    {
+        let mut g = 0;
+        for (d, &byte) in code.iter().enumerate() {
+            let h = self.child(g, byte);
+            if h == 0 {
+                return Followed { state: g, depth: d };
+            }
+            g = h;
+        }
+        Followed {
+            state: g,
+            depth: code.len(),
+        }
+    }
+
+    // Adds code number j, whose bytes begin at s, to those before it; its number, from 1, stands in `ends` at its state. False if it is one of them:
+    // a plain answer, of which `add_codes` makes the refusal.
+    fn add_code(&mut self, ends: &mut [u8; 2001], code: &[u8], j: usize, s: usize) -> bool
+        requires { OnCode self.old ends.old code.now j s }
+        ensures { Adds self.old self.new ends.old ends.new code.now j s result }
+    {
+        let w = self.follow(code);
+        label_code(&mut self.next, code, s);
+        let mut end = w.state;
+        if w.depth < code.len() {
+            let c = usize::from(code[w.depth]);
+            self.forks[w.state] = with_bit(self.forks[w.state], j);
+            self.keys[c] = with_bit(self.keys[c], j);
+            self.heads[j] = (s + w.depth + 1) as u16;
+            end = s + code.len();
+        }
+        if ends[end] != 0 {
             return false;
         }
-        s += l;
-        j += 1;
+        ends[end] = (j + 1) as u8;
+        true
     }
-    true
+
+    // The tree of all codes, in a new one; `starts` gets where each begins, so s is kept. Refused if a code stands there twice.
+    pub(crate) fn add_codes(
+        &mut self,
+        codes: Codes,
+        ends: &mut [u8; 2001],
+        starts: &mut [usize; 64],
+    ) -> Result<(), Refusal>
+        requires { (self.old ≡ new_tree) × Ended [] ends.old }
+        ensures refusal { refusal_of result ≡ refused_if 11 (twice (codes_of codes.entry)) }
+        ensures added { OnOk result (AllAdded (codes_of codes.entry) self.new ends.new starts.new) }
+    {
+        self.next.fill(256);
+        let mut s = 0;
+        for (j, &length) in codes.lengths.iter().enumerate() {
+            let end = s + length as usize;
+            starts[j] = s;
+            if !self.add_code(ends, &codes.bytes[s..end], j, s) {
+                return Err(Refusal::CodeTwice);
+            }
+            s = end;
+        }
+        Ok(())
+    }
+}
+
+// The bytes of a code that begins at s, each behind the one before it.
+fn label_code(next: &mut [u16; 2001], code: &[u8], s: usize)
+    requires { s + length code.now < length next.old }
+    ensures { Labelled s code.now next.old next.new }
+{
+    for i in 1..code.len() {
+        next[s + i] = u16::from(code[i]);
+    }
 }

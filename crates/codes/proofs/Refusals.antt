@@ -9,11 +9,14 @@ use native.Mathlib.Omega.{arith}
 use lib.Dec.{ltb, eqb, eqb-suc-zero}
 use lib.ListN.{length}
 use borrow.Author.Tests.{eq-eqb, ne_eqb, lt-ltb, le-ltb, eqb-true, eqb-false, ltb-false}
+use Rattle.std.specs.Prelude.{Result, Err}
+use Rattle.runs.specs.declared.Refusal.{Refusal}
+use Rattle.runs.specs.Refusals.{refusal_number}
+use Rattle.runs.proofs.Refusals.{number_some}
 use Rattle.words.specs.Words.{Every}
 use Rattle.words.proofs.Tests.{by_test}
 use Rattle.automaton.specs.Ceilings.{total_ceiling}
-use Rattle.codes.specs.declared.Answer.TheVariants.{Value, Refused}
-use Rattle.codes.specs.Refusals.{refused_if, first_refusal, answered, answer_refusal}
+use Rattle.codes.specs.Refusals.{Value, Refused, told, refused_if, first_refusal, answered, answer_refusal}
 use Rattle.codes.specs.Codes.{length_refusal, longest_code, has_control, code_refusal, accepted}
 use Rattle.codes.specs.Entry.{total_answer}
 use Rattle.codes.specs.Promise.{AnswersTold, CodesAccepted, LengthsAccepted}
@@ -53,6 +56,15 @@ unfolding AnswersTold answered
 answers_told zero v = (refl, refl)
 answers_told (suc n) v = (refl, rw eqb-suc-zero refl)
 
+-- what the code answers is that: a value where there is no refusal, else the refusal's number
+pub told_value : (n v : ℕ) → 0 ≡ n → Value v ≡ answered n v
+told_value n v e = sym (answered_value n v (sym e))
+
+pub told_refused : (r : Result ℕ Refusal) (s : Refusal) (n v : ℕ) → r ≡ Err s → refusal_number s ≡ n → told r ≡ answered n v
+told_refused r s n v is e =
+    let some : n ≢ 0 = λ z. number_some s (e ∙ z) in
+    ap told is ∙ ap Refused e ∙ sym (answered_refusal n v some)
+
 -- A LENGTH is refused where it is 0 or too large, and in no other case
 module _ (l m : ℕ) where
   pub length_none : m ≡ 0 → length_refusal l m ≡ 1
@@ -79,6 +91,10 @@ module _ (w : List ℕ) where
   pub code_by_length : length_refusal longest_code (length w) ≢ 0 → code_refusal w ≡ length_refusal longest_code (length w)
   unfolding code_refusal
   code_by_length h = first_here _ _ h
+
+  -- a refusal of the length is the code's
+  pub code_length : (s : Refusal) → refusal_number s ≡ length_refusal longest_code (length w) → refusal_number s ≡ code_refusal w
+  code_length s e = e ∙ sym (code_by_length (λ z. number_some s (e ∙ z)))
 
   pub code_control : length_refusal longest_code (length w) ≡ 0 → has_control w ≡ true → code_refusal w ≡ 13
   unfolding code_refusal first_refusal refused_if

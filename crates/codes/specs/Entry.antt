@@ -1,8 +1,7 @@
 -- What the ceilings answer. Assumes nothing: these are definitions.
 use Rattle.std.specs.Prelude.{List, ℕ}
 use Rattle.automaton.specs.Ceilings.{byte_ceiling, total_ceiling}
-use Rattle.codes.specs.declared.Answer.{Answer}
-use Rattle.codes.specs.Refusals.{answered}
+use Rattle.codes.specs.Refusals.{Answer, answered}
 use Rattle.codes.specs.Codes.{length_refusal, longest_code, code_refusal}
 
 -- of a code, and of a code's length and a byte count

@@ -1,7 +1,7 @@
 -- Refusals in their order, and an answer that is a value or a refusal. Assumes nothing: these are definitions.
-use Rattle.std.specs.Prelude.{Bool, cond, List, [], ◌∷◌, ℕ, zero, suc}
-use Rattle.codes.specs.declared.Answer.{Answer}
-use Rattle.codes.specs.declared.Answer.TheVariants.{Value, Refused}
+use Rattle.std.specs.Prelude.{Bool, cond, Result, Ok, Err, List, [], ◌∷◌, ℕ, zero, suc}
+use Rattle.runs.specs.declared.Refusal.{Refusal}
+use Rattle.runs.specs.Refusals.{refusal_number}
 
 -- a refusal's number where its condition holds, else 0
 unfoldable pub refused_if : (number : ℕ) → (condition : Bool) → ℕ
@@ -12,6 +12,16 @@ unfoldable pub first_refusal : List ℕ → ℕ
 first_refusal [] = 0
 first_refusal (zero ∷ ns) = first_refusal ns
 first_refusal (suc n ∷ ns) = suc n
+
+-- WHAT AN ENTRY POINT ANSWERS: a value, or refused with a number
+pub data Answer : Type 0 where
+  Value : (value : ℕ) → Answer
+  Refused : (number : ℕ) → Answer
+
+-- what the code answers, in these words
+abbrev pub told : Result ℕ Refusal → Answer
+told (Ok v) = Value v
+told (Err r) = Refused (refusal_number r)
 
 -- the value, or the refusal if there is one
 unfoldable pub answered : (refusal value : ℕ) → Answer

@@ -9,18 +9,13 @@ use lib.Signed.{mag}
 use mir.Syntax.{w64}
 use mir.Val.{SFits, to_z, of_z}
 use mir.Facts.{to_z_pos, to_z-of_z}
-use Rattle.codes.specs.declared.Answer.{Answer}
-use Rattle.codes.specs.declared.Answer.TheVariants.{Value, Refused}
-use Rattle.codes.specs.Refusals.{answer_value}
+use Rattle.codes.specs.Refusals.{Answer, Value, Refused, answer_value}
 use Rattle.desk.specs.Signed.{signed}
 
 -- A VALUE, below the limit
 module _ (a : Answer) (n : ℕ) (is : a ≡ Value n) (below : answer_value a < 2 ^ 63) where
   value_below : n < 2 ^ 63
   value_below = subst (λ (b : Answer). answer_value b < 2 ^ 63) is below
-
-  pub value_fits : SFits w64 (pos n)
-  value_fits = record { sfits = value_below }
 
   pub value_signed : to_z w64 n ≡ signed a
   unfolding signed
@@ -35,16 +30,16 @@ mag_difference j (suc k) = go (ltb j (suc k))
     go true = omega arith
     go false = omega arith
 
-small_toZ : (n : ℕ) → n < 2 ^ 32 → to_z w64 n ≡ pos n
-small_toZ n below = to_z_pos w64 (omega arith)
+opposite_fits : (n : ℕ) → n < 2 ^ 32 → SFits w64 (pos 0 -ℤ pos n)
+opposite_fits n below = record { sfits = omega (arith, mag_difference 0 n) }
 
-pub difference_fits : (j k : ℕ) → j < 2 ^ 32 → k < 2 ^ 32 → SFits w64 (to_z w64 j -ℤ to_z w64 k)
-difference_fits j k a b = rw (small_toZ j a, small_toZ k b) (record { sfits = omega (arith, mag_difference j k) })
+small_fits : (n : ℕ) → n < 2 ^ 32 → SFits w64 (pos n)
+small_fits n below = record { sfits = omega arith }
 
-pub refusal_signed : (a : Answer) (n : ℕ) → a ≡ Refused n → n < 2 ^ 32 → to_z w64 (of_z w64 (pos 0 -ℤ to_z w64 n)) ≡ signed a
+pub refusal_signed : (a : Answer) (n : ℕ) (z : ℤ) → a ≡ Refused n → n < 2 ^ 32 → z ≡ pos n →
+    to_z w64 (of_z w64 (pos 0 -ℤ to_z w64 (of_z w64 z))) ≡ signed a
 unfolding signed
-refusal_signed a n is below =
-    to_z-of_z (difference_fits 0 n (omega arith) below)
-    ∙ ap (λ (k : ℤ). pos 0 -ℤ k) (small_toZ n below)
+refusal_signed a n z is below e =
+    rw (e, to_z-of_z (small_fits n below)) (to_z-of_z (opposite_fits n below))
     ∙ +ℤ_idl (neg_ℤ (pos n))
     ∙ sym (ap signed is)

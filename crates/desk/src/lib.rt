@@ -2,22 +2,23 @@
 #![tactic(auto)]
 
 ghost use Rattle.std.specs.Prelude.{◌≡◌, ◌^◌, ◌<◌, length};
-ghost use Rattle.codes.specs.Refusals.{answer_value};
+ghost use Rattle.codes.specs.Refusals.{answer_value, told};
 ghost use Rattle.codes.specs.Entry.{byte_answer, total_answer};
 ghost use Rattle.sheets.specs.Entry.{prepare_answer, prepare_buffer};
 ghost use Rattle.desk.specs.Signed.{signed};
 
-use codes::{Answer, byte_ceiling, total_ceiling};
+use codes::{byte_ceiling, total_ceiling};
+use runs::Refusal;
 use sheets::prepare;
 
 // An answer as one signed number: the value, or minus the refusal's number.
-fn signed(answer: Answer) -> i64
-    requires { answer_value answer < 2 ^ 63 }
-    ensures { result ≡ signed answer }
+fn signed(answer: Result<u64, Refusal>) -> i64
+    requires { answer_value (told answer) < 2 ^ 63 }
+    ensures { result ≡ signed (told answer) }
 {
     match answer {
-        Answer::Value(value) => value as i64,
-        Answer::Refused(number) => -(number as i64),
+        Ok(value) => value as i64,
+        Err(refusal) => -i64::from(refusal.number()),
     }
 }
 

@@ -1,8 +1,8 @@
 -- The answers of preparing, joining and feeding boards as plain numbers, for C. Assumes nothing: these are definitions.
 use Rattle.std.specs.Prelude.{◌≡◌, List, ℕ, length}
 use Rattle.runs.specs.Reading.{ending_refusal, ending_full}
+use Rattle.runs.specs.Answers.{Answer}
 use Rattle.boards.specs.declared.Watch.{Watch}
-use Rattle.boards.specs.declared.Feeding.{Feeding}
 use Rattle.boards.specs.Entry.{prepare_answer, prepare_buffer, Lent, feed_call}
 use Rattle.boards.specs.Join.{join_answer, join_buffer}
 use Rattle.entries.specs.declared.PreparedNumbers.{PreparedNumbers}
@@ -23,8 +23,12 @@ pub record JoinedTold (first second : List ℕ) (answer : PreparedNumbers) (buff
 abbrev pub board_watch : (state taken hits : ℕ) → Watch
 board_watch g n h = record { state = g; taken = n; hits = h }
 
+-- a watch's numbers, of a call that took and wrote nothing
+abbrev pub board_numbers : Watch → HitNumbers
+board_numbers x = record { state = x.state; taken = x.taken; hits = x.hits; written = 0; read = 0; refusal = 0; full = 0 }
+
 -- the answer of feeding: the watch, the bytes taken and the hits written in this call, and the ending
-abbrev pub hit_numbers : Feeding → HitNumbers
+abbrev pub hit_numbers : Answer Watch → HitNumbers
 hit_numbers f =
     record {
       state = f.watch.state;

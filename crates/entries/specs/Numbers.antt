@@ -1,11 +1,10 @@
 -- The answers of preparing and feeding as plain numbers, for C. Assumes nothing: these are definitions.
 use Rattle.std.specs.Prelude.{◌≡◌, List, ℕ, length}
 use Rattle.runs.specs.Reading.{ending_refusal, ending_full}
-use Rattle.codes.specs.declared.Answer.{Answer}
-use Rattle.codes.specs.Refusals.{answer_refusal, answer_value}
+use Rattle.runs.specs.Answers.{Answer as FeedAnswer}
+use Rattle.codes.specs.Refusals.{Answer, answer_refusal, answer_value}
 use Rattle.sheets.specs.Entry.{prepare_answer, prepare_buffer}
 use Rattle.finder.specs.declared.Watch.{Watch}
-use Rattle.finder.specs.declared.Feeding.{Feeding}
 use Rattle.finder.specs.Entry.{Lent, feed_call}
 use Rattle.entries.specs.declared.PreparedNumbers.{PreparedNumbers}
 use Rattle.entries.specs.declared.FedNumbers.{FedNumbers}
@@ -23,8 +22,13 @@ pub record PrepareTold (code : List ℕ) (answer : PreparedNumbers) (buffer buff
 abbrev pub watch_from : (state taken hits compares : ℕ) → Watch
 watch_from p n h c = record { state = p; taken = n; hits = h; compares = c }
 
+-- a watch's numbers, of a call that took and wrote nothing
+abbrev pub watch_numbers : Watch → FedNumbers
+watch_numbers x =
+    record { state = x.state; taken = x.taken; hits = x.hits; read = 0; compares = x.compares; written = 0; refusal = 0; full = 0 }
+
 -- the answer of feeding: the watch, the bytes taken and the places written in this call, and the ending
-abbrev pub fed_numbers : Feeding → FedNumbers
+abbrev pub fed_numbers : FeedAnswer Watch → FedNumbers
 fed_numbers f =
     record {
       state = f.watch.state;

@@ -1,10 +1,12 @@
 // C entries over preparing, joining and feeding boards, in numbers as those of a single code.
 ghost use Rattle.std.specs.Prelude.{◌≡◌};
+ghost use Rattle.runs.specs.Answers.{answer_of};
 ghost use Rattle.boards.specs.Entry.{lent};
-ghost use Rattle.entries.specs.Boards.{BoardTold, JoinedTold, board_watch, hit_numbers, HitsTold};
+ghost use Rattle.entries.specs.Boards.{BoardTold, JoinedTold, board_watch, board_numbers, hit_numbers, HitsTold};
 
-use crate::{PreparedNumbers, prepared_numbers};
-use boards::{Feeding, Watch, feed, join, prepare};
+use crate::PreparedNumbers;
+use boards::{Watch, feed, join, prepare};
+use runs::{Feeding, Refusal};
 
 // What feeding a board answers: the watch, the hits written and the bytes taken in this call, the refusal's number (0 for none), and whether a list is full
 // with bytes of the piece left (1) or not (0).
@@ -20,19 +22,38 @@ pub struct HitNumbers {
     pub full: u32,
 }
 
-// An answer of feeding in numbers.
-fn hit_numbers(f: Feeding) -> HitNumbers
-    ensures { result ≡ hit_numbers f }
+// A watch in numbers, of a call that took and wrote nothing.
+impl From<Watch> for HitNumbers {
+    ghost from_gives = { λ watch numbers. numbers ≡ board_numbers watch };
+
+    fn from(watch: Watch) -> HitNumbers {
+        HitNumbers {
+            state: watch.state,
+            taken: watch.taken,
+            hits: watch.hits,
+            written: 0,
+            read: 0,
+            refusal: 0,
+            full: 0,
+        }
+    }
+}
+
+// An answer of feeding in numbers: a refusal leaves the watch as it was.
+fn hit_numbers(watch: Watch, answer: Result<Feeding<Watch, u64>, Refusal>) -> HitNumbers
+    ensures { result ≡ hit_numbers (answer_of watch answer) }
 {
-    let e = f.ending;
-    HitNumbers {
-        state: f.watch.state,
-        taken: f.watch.taken,
-        hits: f.watch.hits,
-        written: f.written,
-        read: f.taken,
-        refusal: e.refusal(),
-        full: e.full(),
+    match answer {
+        Ok(fed) => HitNumbers {
+            written: fed.written,
+            read: fed.taken,
+            full: u32::from(fed.ending.is_full()),
+            ..HitNumbers::from(fed.watch)
+        },
+        Err(refusal) => HitNumbers {
+            refusal: refusal.number(),
+            ..HitNumbers::from(watch)
+        },
     }
 }
 
@@ -45,7 +66,7 @@ pub extern "C" fn entries_prepare_board(
 ) -> PreparedNumbers
     ensures { BoardTold lengths.now bytes.now result buffer.old buffer.new }
 {
-    prepared_numbers(prepare(lengths, bytes, buffer))
+    PreparedNumbers::from(prepare(lengths, bytes, buffer))
 }
 
 // Joins two boards.
@@ -57,7 +78,7 @@ pub extern "C" fn entries_join_boards(
 ) -> PreparedNumbers
     ensures { JoinedTold first.now second.now result buffer.old buffer.new }
 {
-    prepared_numbers(join(first, second, buffer))
+    PreparedNumbers::from(join(first, second, buffer))
 }
 
 // Feeds a piece of text to a board, with the watch of these three numbers.
@@ -79,5 +100,5 @@ pub extern "C" fn entries_feed_board(
         taken: taken,
         hits: hits,
     };
-    hit_numbers(feed(board, watch, piece, places, numbers))
+    hit_numbers(watch, feed(board, watch, piece, places, numbers))
 }

@@ -1,17 +1,19 @@
-// C entries over preparing and feeding, for the tests and the benchmark: numbers in place of the watch, the answer and the ending.
+// C entries over preparing and feeding, for the tests and the benchmark: numbers in place of the watch and of the Result that is answered.
 #![tactic(auto)]
 
 ghost use Rattle.std.specs.Prelude.{◌≡◌};
+ghost use Rattle.runs.specs.Answers.{answer_of};
+ghost use Rattle.codes.specs.Refusals.{told};
 ghost use Rattle.finder.specs.Entry.{lent};
-ghost use Rattle.entries.specs.Numbers.{prepared_numbers, PrepareTold, watch_from, fed_numbers, FeedTold};
+ghost use Rattle.entries.specs.Numbers.{prepared_numbers, PrepareTold, watch_from, watch_numbers, fed_numbers, FeedTold};
 
-use codes::Answer;
-use finder::{Feeding, Watch, feed};
+use finder::{Watch, feed};
+use runs::{Feeding, Refusal};
 use sheets::prepare;
 
 mod board;
 
-// What preparing answers: the length of the sheet or board, or 0 and the refusal's number.
+// What preparing answers: the length of the sheet or board, or 0 and the refusal's number. These are numbers, and no Result, since C reads them.
 #[repr(C)]
 #[derive(Clone, Copy)]
 pub struct PreparedNumbers {
@@ -34,30 +36,53 @@ pub struct FedNumbers {
     pub full: u32,
 }
 
-// An answer of preparing in numbers.
-fn prepared_numbers(a: Answer) -> PreparedNumbers
-    ensures { result ≡ prepared_numbers a }
-{
-    PreparedNumbers {
-        length: a.value(),
-        refusal: a.refusal(),
+impl From<Result<u64, Refusal>> for PreparedNumbers {
+    ghost from_gives = { λ answer numbers. numbers ≡ prepared_numbers (told answer) };
+
+    fn from(answer: Result<u64, Refusal>) -> PreparedNumbers {
+        match answer {
+            Ok(length) => PreparedNumbers { length, refusal: 0 },
+            Err(refusal) => PreparedNumbers {
+                length: 0,
+                refusal: refusal.number(),
+            },
+        }
     }
 }
 
-// An answer of feeding in numbers.
-fn fed_numbers(f: Feeding) -> FedNumbers
-    ensures { result ≡ fed_numbers f }
+// A watch in numbers, of a call that took and wrote nothing.
+impl From<Watch> for FedNumbers {
+    ghost from_gives = { λ watch numbers. numbers ≡ watch_numbers watch };
+
+    fn from(watch: Watch) -> FedNumbers {
+        FedNumbers {
+            state: watch.state,
+            taken: watch.taken,
+            hits: watch.hits,
+            read: 0,
+            compares: watch.compares,
+            written: 0,
+            refusal: 0,
+            full: 0,
+        }
+    }
+}
+
+// An answer of feeding in numbers: a refusal leaves the watch as it was. That of a board, in board.rt, has other fields for C, so there is one for each.
+fn fed_numbers(watch: Watch, answer: Result<Feeding<Watch, u32>, Refusal>) -> FedNumbers
+    ensures { result ≡ fed_numbers (answer_of watch answer) }
 {
-    let e = f.ending;
-    FedNumbers {
-        state: f.watch.state,
-        taken: f.watch.taken,
-        hits: f.watch.hits,
-        read: f.taken,
-        compares: f.watch.compares,
-        written: f.written,
-        refusal: e.refusal(),
-        full: e.full(),
+    match answer {
+        Ok(fed) => FedNumbers {
+            read: fed.taken,
+            written: fed.written,
+            full: u32::from(fed.ending.is_full()),
+            ..FedNumbers::from(fed.watch)
+        },
+        Err(refusal) => FedNumbers {
+            refusal: refusal.number(),
+            ..FedNumbers::from(watch)
+        },
     }
 }
 
@@ -66,7 +91,7 @@ fn fed_numbers(f: Feeding) -> FedNumbers
 pub extern "C" fn entries_prepare(code: &[u8], buffer: &mut [u8]) -> PreparedNumbers
     ensures { PrepareTold code.now result buffer.old buffer.new }
 {
-    prepared_numbers(prepare(code, buffer))
+    PreparedNumbers::from(prepare(code, buffer))
 }
 
 // Feeds a piece of text, with the watch of these four numbers.
@@ -89,5 +114,5 @@ pub extern "C" fn entries_feed(
         hits: hits,
         compares: compares,
     };
-    fed_numbers(feed(sheet, watch, piece, places))
+    fed_numbers(watch, feed(sheet, watch, piece, places))
 }

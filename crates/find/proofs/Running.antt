@@ -1,26 +1,25 @@
 -- The whole run: the first line came, and its refusal was sent or the text behind it searched. Assumes nothing.
 use mathlib.Core.Path.{◌≡◌, refl, sym, ◌∙◌}
-use mathlib.Core.Bool.{Bool, true, false}
+use mathlib.Core.Bool.{false}
 use mathlib.Core.List.{List, ◌++◌, append_assoc, append-nil}
 use mathlib.Core.Logic.{◌≢◌}
 use Prim.Native.Nat.{ℕ}
 use native.Mathlib.Omega.{arith}
 use borrow.Author.Tests.{eq-eqb, ne_eqb}
 use lib.ListN.{length}
-use Rattle.finder.specs.declared.Watch.{Watch}
 use Rattle.finder.specs.Feed.{opened}
 use Rattle.forms.specs.declared.Line.{Line}
 use Rattle.forms.specs.declared.Line.TheVariants.{Opening, Wrong}
 use Rattle.forms.specs.Line.{goes_on}
 use Rattle.forms.specs.Text.{refused_form}
 use Rattle.forms.proofs.Lines.{read_over}
-use Rattle.streams.specs.declared.Start.{Start}
-use Rattle.find.specs.declared.Progress.{Progress}
+use Rattle.std.specs.Prelude.{None, Result, Ok, Err}
+use Rattle.streams.specs.declared.NotComplete.{NotComplete}
 use Rattle.find.specs.Printed.{line_refusal, line_sheet}
 use Rattle.find.specs.Output.{in_pieces, text_output, output_after, output, blank_code, blank_sheet}
 use Rattle.streams.specs.Receipts.{Sent, Broken, Moved, MayFollow}
-use Rattle.streams.specs.Streams.{SentOrTold, LineOn, LineRead, SomeCame}
-use Rattle.find.specs.Program.{SearchOn, SearchStopped, Searched, Complete, Stopped, Ran}
+use Rattle.streams.specs.Streams.{SentOrTold, LineOn, SomeCame}
+use Rattle.find.specs.Program.{SearchOn, SearchStopped, TextSearched, Complete, Stopped, Ran}
 use Rattle.streams.proofs.Moving.{moved_none, moved_join}
 use Rattle.find.proofs.Stopping.{stopped_here, stopped_behind}
 
@@ -54,8 +53,8 @@ module _
   unfolding output_after
   search_then none rest = line_then rest (λ w. absurd (refusal_wrong line kept (length blank_sheet) none w)) ∙ rw (eq-eqb line_refused_by 0 none)
 
-  run_searched : {y : Watch} {came sent : ℕ} → line_refused_by ≡ 0 →
-      SearchOn (line_sheet line kept blank_sheet) opened mid 0 y false came sent → Complete came sent
+  run_searched : {came sent : ℕ} → line_refused_by ≡ 0 →
+      SearchOn (line_sheet line kept blank_sheet) opened mid 0 None came sent → Complete came sent
   run_searched none g =
       record {
         bytes = f.bytes ++ g.bytes;
@@ -75,26 +74,17 @@ ran_not c a z e = rw (a, z) at (stopped_here output c e)
 
 -- from where the functions leave it: the first line read, with counts that began at 0
 module _
-    {q : Start} {kept : List ℕ} {at mid from : ℕ} (left : q.more ≡ false) (f : LineRead (Opening 0) blank_code at q kept mid)
-    (ok : q.ok ≡ true) (zero-came : at ≡ 0) (zero-sent : from ≡ 0) where
-  line_is : LineOn (Opening 0) blank_code 0 q.line kept mid
-  line_is = rw zero-came at (f.so_far.done ok).0
+    {line : Line} {kept : List ℕ} {at mid : ℕ} (from : ℕ) (f : LineOn (Opening 0) blank_code at line kept mid) (over : goes_on line ≡ false)
+    (zero-came : at ≡ 0) (zero-sent : from ≡ 0) where
+  line_is : LineOn (Opening 0) blank_code 0 line kept mid
+  line_is = rw zero-came at f
 
-  line_over : goes_on q.line ≡ false
-  line_over = sym (f.so_far.done ok).1 ∙ left
-
-  pub ran_refused : {n sent : ℕ} {r : Bool} → n ≡ line_refusal q.line kept (length blank_sheet) → n ≢ 0 →
+  pub ran_refused : {n : ℕ} (sent : ℕ) (r : Result (Unit {0}) NotComplete) → n ≡ line_refusal line kept (length blank_sheet) → n ≢ 0 →
       SentOrTold from (refused_form n) r sent → Ran r mid sent
-  ran_refused e h p =
-      record {
-        done = λ d. run_refused line_is line_over (rw e at h) (rw (zero-sent, e) at (p.done d));
-        told = λ d. ((p.told d).0, ran_not (record { bytes = line_is.bytes; came = line_is.came }) refl zero-sent (p.told d).1);
-      }
+  ran_refused sent (Ok v) e h p = run_refused line_is over (rw e at h) (rw (zero-sent, e) at p)
+  ran_refused sent (Err v) e h p = (p.0, ran_not (record { bytes = line_is.bytes; came = line_is.came }) refl zero-sent p.1)
 
-  pub ran_searched : {s : List ℕ} {n came sent : ℕ} {r : Progress} → n ≡ line_refusal q.line kept (length blank_sheet) → n ≡ 0 →
-      s ≡ line_sheet q.line kept blank_sheet → r.more ≡ false → Searched s opened mid from r came sent → Ran r.ok came sent
-  ran_searched e none i over g =
-      record {
-        done = λ d. run_searched line_is line_over (sym e ∙ none) (rw (zero-sent, i, over) at (g.so_far.done d));
-        told = λ d. ((g.so_far.told d).0, run_stopped line_is line_over (sym e ∙ none) (rw (zero-sent, i) at (g.so_far.told d).1));
-      }
+  pub ran_searched : {s : List ℕ} (came sent : ℕ) (r : Result (Unit {0}) NotComplete) → 0 ≡ line_refusal line kept (length blank_sheet) →
+      s ≡ line_sheet line kept blank_sheet → TextSearched s mid from r came sent → Ran r came sent
+  ran_searched came sent (Ok v) e i g = run_searched line_is over (sym e) (rw (zero-sent, i) at g)
+  ran_searched came sent (Err v) e i g = (g.0, run_stopped line_is over (sym e) (rw (zero-sent, i) at g.1))

@@ -2,19 +2,12 @@
 use mathlib.Core.Path.{◌≡◌, refl, ap, ◌∙◌}
 use mathlib.Core.List.{List, [], ◌++◌, append_assoc}
 use Prim.Native.Nat.{ℕ, ◌+◌, ◌≤◌}
-use native.Mathlib.Omega.{arith}
 use lib.ListN.{length, take}
 use lib.Seq.{length-take-le, take-append-add, take-append-le}
 use Rattle.streams.specs.Receipts.{Came, Sent, Broken, Moved}
 use Rattle.streams.specs.Streams.{Brought, SomeCame}
 use Rattle.streams.proofs.Moving.{moved_none, moved_join}
 use Rattle.find.specs.Program.{StoppedIn}
-
-pub came_none : (at after : ℕ) → after ≡ at → SomeCame at after
-came_none at after e = record { bytes = []; came = rw e (moved_none Came at) }
-
-pub came_join : {at mid after : ℕ} {xs : List ℕ} → Moved Came at mid xs → SomeCame mid after → SomeCame at after
-came_join {xs = xs} f g = record { bytes = xs ++ g.bytes; came = moved_join f g.came }
 
 -- STOPPED where some bytes came and nothing was sent, and behind what came and was sent before
 pub stopped_here : (prints : List ℕ → List ℕ) {at from after to : ℕ} → SomeCame at after → Broken from to → StoppedIn prints at from after to
@@ -56,6 +49,3 @@ module _
     {full : ℕ} (r : Brought full mid k after ys) where
   pub came_behind : Moved Came at after (take (n + k) (take n xs ++ (ys ++ zs)))
   came_behind = rw (take_behind n k xs ys zs h r.within) (moved_join m r.came)
-
-  pub none_behind : k ≡ 0 → Moved Came at after (take n (take n xs ++ (ys ++ zs)))
-  none_behind z = let same : n + k ≡ n = omega arith in rw same at came_behind

@@ -14,7 +14,7 @@ use Rattle.automaton.specs.Arrows.{label, back_targets, arrows, arrows_below, ba
 use Rattle.automaton.proofs.Targets.{target_range}
 use Rattle.automaton.proofs.Counts.{below_zero, below_suc, below_rises, target_at}
 use Rattle.automaton.proofs.Steps.{back_on, back_nil, back_passed}
-use Rattle.finder.specs.declared.Sought.TheVariants.{At, Nowhere}
+use Rattle.std.specs.Prelude.{Some, None}
 use Rattle.finder.specs.Inside.{Passed, target_of, SoughtBy}
 
 module _ (w : List ℕ) where
@@ -63,7 +63,7 @@ module _ (w : List ℕ) (p : ℕ) (ok : p ≤ length w) (from to : ℕ) (e : fro
       (λ j l z. q.all (from + j) (omega arith) (omega arith) (ap (label w) (here j (omega arith)) ∙ z)))
 
   -- ALL of them: the forward one decides
-  pub compared_none : (c : ℕ) → SoughtBy w from to c Nowhere → stepped w p c ≡ try_forward (to - from) w p c
+  pub compared_none : (c : ℕ) → SoughtBy w from to c None → stepped w p c ≡ try_forward (to - from) w p c
   compared_none c q =
       let n : ℕ = arrows w p in
       let n-is : to - from ≡ n = omega (arith, to_is) in
@@ -71,7 +71,7 @@ module _ (w : List ℕ) (p : ℕ) (ok : p ≤ length w) (from to : ℕ) (e : fro
       ∙ rw (drop_of_length-le (back_targets w p) {i = n} (omega arith), n-is) (back_nil n w p c)
 
   -- up to one that is c
-  pub compared_at : (c l t : ℕ) → SoughtBy w from to c (At l) → t ≡ target_of w l → stepped w p c ≡ step t (l - from + 1) (Back t)
+  pub compared_at : (c l t : ℕ) → SoughtBy w from to c (Some l) → t ≡ target_of w l → stepped w p c ≡ step t (l - from + 1) (Back t)
   compared_at c l t q g =
       let n : ℕ = l - from in
       let on : from ≤ l = q.0.on in

@@ -8,8 +8,7 @@ use borrow.Author.Tests.{not-false}
 use lib.ListN.{length, drop}
 use Rattle.words.specs.Words.{in_front}
 use Rattle.words.proofs.Tests.{by_test, never_both}
-use Rattle.runs.specs.declared.Ending.TheVariants.{PieceDone}
-use Rattle.runs.specs.Reading.{Fed, fed, ending, ending_refusal, ending_full}
+use Rattle.runs.specs.Reading.{Fed, fed, ending_refusal, ending_full, PieceDone}
 use Rattle.runs.proofs.Feeds.{feed_end, takes_some, told_room, ending_none, ending_done, full_says, done_says}
 use Rattle.codes.specs.Codes.{has_control}
 use Rattle.sheets.specs.Sheet.{sheet, named, begins}

@@ -9,6 +9,7 @@ use lib.ListN.{length, take, drop, length-append}
 use lib.Seq.{take-append_seam}
 use Rattle.words.specs.Words.{in_front}
 use Rattle.runs.specs.Reading.{Fed, ending_refusal}
+use Rattle.runs.specs.Answers.{Answer}
 use Rattle.runs.specs.Calls.{Outcome, run, Call, unless_refused, called}
 use Rattle.runs.proofs.Feeds.{ending_none}
 use Rattle.runs.proofs.Runs.{run_snoc}
@@ -20,10 +21,9 @@ use Rattle.sheets.specs.Promise.{PrepareMakes}
 use Rattle.sheets.proofs.Sheets.{sheet_named, sheet_begins}
 use Rattle.sheets.proofs.Entries.{prepare_makes}
 use Rattle.finder.specs.declared.Watch.{Watch}
-use Rattle.finder.specs.declared.Feeding.{Feeding}
 use Rattle.finder.specs.Feed.{opened, feed}
 use Rattle.finder.specs.Machine.{call_refusal, machine_call, machine_refusals}
-use Rattle.finder.specs.Texts.{places, watch_of}
+use Rattle.finder.specs.Texts.{watch_of}
 use Rattle.finder.specs.Entry.{Lent, FeedCall, feed_refusal, call_by, feed_call, FeedSays, feeding, feed_run, told_places, told_refusal, plain}
 use Rattle.finder.specs.Promise.{BehindUnread, RunsGrow, EntriesCount, PreparedCount, EntriesAlike}
 use Rattle.finder.proofs.Places.{places_stand_in}
@@ -52,7 +52,7 @@ as_fed zero w x l =
     }
 as_fed (suc n) w x l = simp eqb-suc-zero (record { watch = refl; taken = refl; told = refl; fits = zero-le; refusal = refl })
 
-pub says_fed : {bs : List ℕ} {x : Watch} {l : Lent} {r : Feeding} {a : Lent} → FeedSays bs x l r a →
+pub says_fed : {bs : List ℕ} {x : Watch} {l : Lent} {r : Answer Watch} {a : Lent} → FeedSays bs x l r a →
     let n = feed_refusal bs x (length l.piece) (length l.list) in
     AsFed n (unless_refused n (feed (named bs) l.piece (length l.list) x) x) (record { answer = r; left = a })
 unfolding feed_call

@@ -1,8 +1,13 @@
 -- Searches from a number on: what was passed, one more, and where they stop. Assumes nothing.
 use mathlib.Core.Path.{◌≡◌}
 use mathlib.Core.Logic.{◌≢◌}
-use Prim.Native.Nat.{ℕ, ◌+◌, ◌≤◌, ◌<◌}
+use Prim.Native.Nat.{ℕ, ◌+◌, ◌-◌, ◌≤◌, ◌<◌}
 use native.Mathlib.Omega.{arith}
+use mathlib.Core.List.{List}
+use lib.ListN.{length, get_or, take, drop, length-drop}
+use lib.Seq.{take_all}
+use Rattle.std.specs.List.{AllWithin, HoldsAt}
+use Rattle.std.proofs.lemmas.List.{get_or-drop}
 use Rattle.words.proofs.Tests.{by_eq, by_le}
 use Rattle.finder.specs.Inside.{Passed, Reaches}
 
@@ -38,3 +43,31 @@ module _ {P : ℕ → Type 0} {from i : ℕ} (p : Passed P from i) where
 
     pub stopped_on : {j : ℕ} → Reaches P Q i end j → Reaches P Q from end j
     stopped_on s = record { passed = passed_on s.passed; within = s.within; found = s.found }
+
+-- THE BYTES from an index on, searched by `position`: it has passed those of which P holds, up to one of which Q holds, or to the end
+module _ (P Q : ℕ → Type 0) (cs : List ℕ) (i : ℕ) (h : i ≤ length cs) where
+  passed_items : (n : ℕ) → AllWithin P (drop i cs) 0 n → Passed (λ k. P (get_or cs k 0)) i (i + n)
+  passed_items n all =
+      record {
+        on = omega arith;
+        all = λ k lo hi.
+            let at : i + (k - i) ≡ k = omega arith in
+            rw (get_or-drop i cs (k - i) 0, at) at (all (k - i) 0 (omega arith) (omega arith));
+      }
+
+  pub position_found : (n : ℕ) → (n < length (drop i cs)) × HoldsAt Q (drop i cs) n × AllWithin P (drop i cs) 0 n →
+      Reaches (λ k. P (get_or cs k 0)) (λ k. Q (get_or cs k 0)) i (length cs) (i + n)
+  position_found n f =
+      stopped_found (passed_items n f.2) (omega (arith, f.0, length-drop i cs)) (rw (get_or-drop i cs n 0) at (f.1 0))
+
+  pub position_none : AllWithin P (drop i cs) 0 (length (drop i cs)) →
+      Reaches (λ k. P (get_or cs k 0)) (λ k. Q (get_or cs k 0)) i (length cs) (length cs)
+  position_none all =
+      let end : i + length (drop i cs) ≡ length cs = omega (arith, length-drop i cs) in
+      let all_passed : Reaches (λ k. P (get_or cs k 0)) (λ k. Q (get_or cs k 0)) i (length cs) (i + length (drop i cs)) =
+      stopped_end (passed_items (length (drop i cs)) all) end in
+      rw end at all_passed
+
+-- the part from an index on, as code takes it
+pub part_on : (cs : List ℕ) (i : ℕ) → take (length cs - i) (drop i cs) ≡ drop i cs
+part_on cs i = take_all (length cs - i) (drop i cs) (omega (arith, length-drop i cs))

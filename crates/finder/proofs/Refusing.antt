@@ -1,5 +1,5 @@
 -- The refusals of feeding in their order, what is known when none comes up, and the contract by refusal. Assumes nothing.
-use mathlib.Core.Path.{◌≡◌, refl, sym, ◌∙◌}
+use mathlib.Core.Path.{◌≡◌, refl}
 use mathlib.Core.Bool.{true, false, not}
 use mathlib.Core.Logic.{◌≢◌}
 use mathlib.Core.List.{List}
@@ -9,15 +9,20 @@ use native.Mathlib.Omega.{arith}
 use lib.Dec.{ltb, eqb}
 use lib.ListN.{length}
 use Rattle.words.proofs.Tests.{by_test, by_eq, by_le}
+use Rattle.std.specs.Prelude.{Ok, Err}
+use Rattle.runs.specs.declared.Feeding.{Feeding}
+use Rattle.runs.specs.declared.Refusal.{Refusal}
+use Rattle.runs.specs.Answers.{answer_of}
+use Rattle.runs.specs.Refusals.{refusal_number}
+use Rattle.runs.proofs.Refusals.{number_some}
 use Rattle.runs.specs.Reading.{longest_text}
 use Rattle.codes.specs.Refusals.{refused_if, first_refusal}
 use Rattle.codes.proofs.Refusals.{none_of, not_refused}
 use Rattle.sheets.specs.Sheet.{named, begins}
 use Rattle.finder.specs.declared.Watch.{Watch}
-use Rattle.finder.specs.declared.Feeding.{Feeding}
 use Rattle.finder.specs.Feed.{fit}
 use Rattle.finder.specs.Entry.{Lent, feed_refusal, refused_call, call_by, feed_call, FeedSays}
-use Rattle.finder.specs.Inside.{Coded, Ready, Took}
+use Rattle.finder.specs.Inside.{Ready, Took}
 use Rattle.finder.proofs.Fitness.{fit_ready}
 
 -- THE TESTS, each after those before it passed
@@ -75,20 +80,22 @@ module _ (bs : List ℕ) (x : Watch) (l k : ℕ) where
     pub none_begins : begins bs ≡ true
     none_begins = passed.0
 
-    pub none_ready : {w : List ℕ} → Coded bs w → Ready (length w) x l
-    none_ready {w} g =
-        rw g.code_is (fit_ready (length (named bs)) x l passed.1 (ltb-false longest_text (x.taken + l) passed.3))
+    pub none_ready : {w : List ℕ} → w ≡ named bs → Ready (length w) x l
+    none_ready {w} is =
+        rw is (fit_ready (length (named bs)) x l passed.1 (ltb-false longest_text (x.taken + l) passed.3))
 
 -- THE CONTRACT
-module _ (bs : List ℕ) (x : Watch) (l : Lent) (n : ℕ) (e : n ≡ feed_refusal bs x (length l.piece) (length l.list)) where
-  pub says_refused : n ≢ 0 → FeedSays bs x l (refused_call n x l).answer l
+module _ (bs : List ℕ) (x : Watch) (l : Lent) where
+  pub says_refused : (r : Refusal) → refusal_number r ≡ feed_refusal bs x (length l.piece) (length l.list) →
+      FeedSays bs x l (answer_of x (Err r)) l
   unfolding feed_call
-  says_refused h = record { is = rw (← e) (by_number n h) }
+  says_refused r e = record { is = rw (← e) (by_number (refusal_number r) (number_some r)) }
     where
       by_number : (j : ℕ) → j ≢ 0 → refused_call j x l ≡ call_by j (named bs) x l
       by_number zero z = absurd (z refl)
       by_number (suc j) z = unfold call_by in refl
 
-  pub says_took : n ≡ 0 → {w : List ℕ} → Coded bs w → (r : Feeding) (a : Lent) → Took w x l r a → FeedSays bs x l r a
+  pub says_took : feed_refusal bs x (length l.piece) (length l.list) ≡ 0 → {w : List ℕ} → w ≡ named bs → (r : Feeding Watch ℕ) (a : Lent) →
+      Took w x l r a → FeedSays bs x l (answer_of x (Ok r)) a
   unfolding feed_call call_by
-  says_took z {w} g r a t = record { is = rw (sym e ∙ z, ← g.code_is) t.is }
+  says_took z {w} e r a t = record { is = rw (z, ← e) t.is }

@@ -2,13 +2,13 @@
 use mathlib.Core.Path.{◌≡◌, refl, sym, ap, ◌∙◌}
 use mathlib.Core.Bool.{false}
 use mathlib.Core.Logic.{◌≢◌}
-use mathlib.Core.List.{List, [], ◌∷◌, ◌++◌, append-nil, append_assoc}
+use mathlib.Core.List.{List, [], ◌∷◌, ◌++◌, append-nil}
 use Prim.Native.Nat.{ℕ, zero, suc, ◌+◌, ◌-◌, ◌≤◌, ◌<◌}
 use native.Mathlib.Nat.{add-zero, le_refl}
 use native.Mathlib.Numerals.{add-one}
 use native.Mathlib.Omega.{arith}
 use lib.Dec.{eqb}
-use lib.ListN.{length, get_or, take, set, length-set}
+use lib.ListN.{length, get_or, set, length-set}
 use lib.Seq.{take-suc-set, drop-set-lt}
 use Rattle.words.specs.Words.{same}
 use Rattle.words.proofs.Lists.{not_same, same_one, length_snoc, drop_more}
@@ -25,61 +25,60 @@ use Rattle.finder.proofs.Passing.{passed_none, passed_next, stopped_found, stopp
 use Rattle.finder.proofs.Leading.{goes_none, goes_more, leads_byte}
 
 -- THE LIST: no more places, and one more
-pub written_none : (ps : List ℕ) (k : ℕ) → k ≤ length ps → Written ps k [] k ps
-written_none ps k h = record { count = sym (add-zero k); room = h; size = refl; front = sym (append-nil (take k ps)); tail = refl }
+pub written_none : (ps : List ℕ) → Written ps [] 0 ps
+written_none ps = record { count = refl; room = omega arith; size = refl; front = refl; tail = refl }
 
-pub written_next : {ps : List ℕ} {k : ℕ} {more : List ℕ} {n : ℕ} {qs : List ℕ} → Written ps k more n qs → n < length qs → (v : ℕ) →
-    Written ps k (more ++ (v ∷ [])) (n + 1) (set qs n v)
-written_next {ps} {k} {more} {n} {qs} t h v =
+pub written_next : {ps told : List ℕ} {n : ℕ} {qs : List ℕ} → Written ps told n qs → n < length qs → (v : ℕ) →
+    Written ps (told ++ (v ∷ [])) (n + 1) (set qs n v)
+written_next {ps} {told} {n} {qs} t h v =
     record {
-      count = omega (arith, t.count, length_snoc more v);
+      count = omega (arith, t.count, length_snoc told v);
       room = rw length-set (omega arith);
       size = length-set qs n v ∙ t.size;
-      front = rw (add-one n) (take-suc-set qs n v h ∙ ap (λ (l : List ℕ). l ++ (v ∷ [])) t.front ∙ append_assoc (take k ps) more (v ∷ []));
+      front = rw (add-one n) (take-suc-set qs n v h ∙ ap (λ (l : List ℕ). l ++ (v ∷ [])) t.front);
       tail = drop-set-lt (n + 1) qs n v (omega arith) ∙ drop_more n (n + 1) qs ps (omega arith) t.tail;
     }
 
 -- THE LOOP that writes a place for each byte
-pub record Row (piece : List ℕ) (from count c k last : ℕ) (ps : List ℕ) (j : ℕ) (qs : List ℕ) : Type 0 where
-  pub began : Repeating piece from count ps k last
+pub record Row (piece : List ℕ) (from count c last : ℕ) (ps : List ℕ) (j : ℕ) (qs : List ℕ) : Type 0 where
+  pub began : Repeating piece from count ps last
   pub fewer : j ≤ count
   pub passed : Passed (Here piece c) from (from + j)
-  pub written : Written ps k (in_a_row (last + 1) j) (k + j) qs
+  pub written : Written ps (in_a_row (last + 1) j) j qs
 
-pub row_none : {piece : List ℕ} {from count : ℕ} (c : ℕ) {k last : ℕ} {ps : List ℕ} → Repeating piece from count ps k last →
-    Row piece from count c k last ps 0 ps
+pub row_none : {piece : List ℕ} {from count : ℕ} (c : ℕ) {last : ℕ} {ps : List ℕ} → Repeating piece from count ps last →
+    Row piece from count c last ps 0 ps
 unfolding in_a_row
-row_none {piece} {from} {count} c {k} {last} {ps} g =
+row_none {piece} {from} {count} c {last} {ps} g =
     record {
       began = g;
       fewer = omega arith;
       passed = rw (add-zero from) (passed_none from);
-      written = rw (add-zero k) (written_none ps k (omega (arith, g.room)));
+      written = written_none ps;
     }
 
-module _ {piece : List ℕ} {from count c k last : ℕ} {ps : List ℕ} {j : ℕ} {qs : List ℕ} (r : Row piece from count c k last ps j qs) where
+module _ {piece : List ℕ} {from count c last : ℕ} {ps : List ℕ} {j : ℕ} {qs : List ℕ} (r : Row piece from count c last ps j qs) where
   -- what sums and indices need
-  pub row_bounds : (from + count ≤ longest_text) × (k + count ≤ longest_text) × (k + count ≤ length qs) × (last + count ≤ longest_text)
+  pub row_bounds : (from + count ≤ longest_text) × (count ≤ length qs) × (last + count ≤ longest_text)
   row_bounds =
       let g = r.began in
-      (omega (arith, g.bytes, g.text), g.places, omega (arith, g.room, r.written.size), g.below)
+      (omega (arith, g.bytes, g.text), omega (arith, g.room, r.written.size), g.below)
 
-  pub row_next : j < count → get_or piece (from + j) 0 ≡ c → Row piece from count c k last ps (j + 1) (set qs (k + j) (last + 1 + j))
+  pub row_next : j < count → get_or piece (from + j) 0 ≡ c → Row piece from count c last ps (j + 1) (set qs j (last + 1 + j))
   unfolding in_a_row
   row_next h e =
       let at : from + (j + 1) ≡ from + j + 1 = omega arith in
-      let n : k + (j + 1) ≡ k + j + 1 = omega arith in
       record {
         began = r.began;
         fewer = omega arith;
         passed = passed_next r.passed (from + (j + 1)) at e;
-        written = rw (n, add-one j) (written_next r.written (omega (arith, row_bounds.2)) (last + 1 + j));
+        written = rw (add-one j) (rw (add-one j) at (written_next r.written (omega (arith, row_bounds.1)) (last + 1 + j)));
       }
 
-  pub row_stopped : j < count → get_or piece (from + j) 0 ≢ c → Repeated piece from count c k last ps j qs
+  pub row_stopped : j < count → get_or piece (from + j) 0 ≢ c → Repeated piece from count c last ps j qs
   row_stopped h n = record { stopped = stopped_found r.passed (omega arith) n; written = r.written }
 
-  pub row_end : count ≤ j → Repeated piece from count c k last ps j qs
+  pub row_end : count ≤ j → Repeated piece from count c last ps j qs
   row_end h =
       let e : j ≡ count = omega (arith, r.fewer) in
       record { stopped = stopped_end r.passed (ap (λ (n : ℕ). from + n) e); written = r.written }
@@ -130,8 +129,8 @@ module _ (w piece : List ℕ) (own : back_targets w (length w) ≡ length w ∷ 
 
   -- A TURN: n bytes that lead to m again, and perhaps one that leads to 0
   module _
-      (before i count k last : ℕ) (ps : List ℕ) (n : ℕ) (qs : List ℕ) (r : Repeated piece i count (label w m) k last ps n qs)
-      (bytes : i + count ≤ length piece) (room : k + count ≤ length ps) (reached : m ≤ before + i) (last-is : last ≡ before + i - m) where
+      (before i count last : ℕ) (ps : List ℕ) (n : ℕ) (qs : List ℕ) (r : Repeated piece i count (label w m) last ps n qs)
+      (bytes : i + count ≤ length piece) (room : count ≤ length ps) (reached : m ≤ before + i) (last-is : last ≡ before + i - m) where
     fewer : n ≤ count
     fewer = omega (arith, r.stopped.within)
 
@@ -139,14 +138,14 @@ module _ (w piece : List ℕ) (own : back_targets w (length w) ≡ length w ∷ 
     size = length_row (last + 1) n
 
     row : (x : Watch) → x.state ≡ m → x.taken ≡ before + i →
-        GoesOn w piece i (i + n) (length ps - k) (in_a_row (last + 1) n) x (further x m n n n)
+        GoesOn w piece i (i + n) (length ps) (in_a_row (last + 1) n) x (further x m n n n)
     row x e t =
         let a : last + 1 ≡ x.taken - m + 1 = omega (arith, t, last-is) in
         rw a
-        (goes_row x e (omega (arith, t, reached)) i (length ps - k) n (omega (arith, fewer, room)) (omega (arith, fewer, bytes))
+        (goes_row x e (omega (arith, t, reached)) i (length ps) n (omega (arith, fewer, room)) (omega (arith, fewer, bytes))
         (λ j lo hi. r.stopped.passed.all j lo hi))
 
-    pub turned_row : 1 ≤ n → Turned w piece before m i k ps (record { state = m; cost = n; at = i + n; written = k + n }) qs
+    pub turned_row : 1 ≤ n → Turned w piece before m i ps (record { led = record { state = m; cost = n; at = i + n }; written = n }) qs
     turned_row h =
         let taken : i + n - i ≡ n = omega arith in
         record {
@@ -161,7 +160,7 @@ module _ (w piece : List ℕ) (own : back_targets w (length w) ≡ length w ∷ 
           feeds = λ x e t. rw (taken, size) (row x e t);
         }
 
-    pub turned_left : n < count → Turned w piece before m i k ps (record { state = 0; cost = n + 1; at = i + n + 1; written = k + n }) qs
+    pub turned_left : n < count → Turned w piece before m i ps (record { led = record { state = 0; cost = n + 1; at = i + n + 1 }; written = n }) qs
     turned_left h =
         let taken : i + n + 1 - i ≡ n + 1 = omega arith in
         record {
@@ -177,7 +176,7 @@ module _ (w piece : List ℕ) (own : back_targets w (length w) ≡ length w ∷ 
         }
       where
         left : (x : Watch) → x.state ≡ m → x.taken ≡ before + i →
-            GoesOn w piece i (i + n + 1) (length ps - k) (in_a_row (last + 1) n) x (further x 0 (n + 1) n (n + 1))
+            GoesOn w piece i (i + n + 1) (length ps) (in_a_row (last + 1) n) x (further x 0 (n + 1) n (n + 1))
         left x e t =
             let y : Watch = further x m n n n in
             let one : i + n + 1 - (i + n) ≡ 1 = omega arith in
@@ -185,10 +184,10 @@ module _ (w piece : List ℕ) (own : back_targets w (length w) ≡ length w ∷ 
             let at : x.taken + n + 1 ≡ x.taken + (n + 1) = omega arith in
             let hits : x.hits + n + 0 ≡ x.hits + n = omega arith in
             let cost : x.compares + n + 1 ≡ x.compares + (n + 1) = omega arith in
-            let next : GoesOn w piece (i + n) (i + n + 1) (length ps - k - n) [] y (further x 0 (n + 1) n (n + 1)) =
+            let next : GoesOn w piece (i + n) (i + n + 1) (length ps - n) [] y (further x 0 (n + 1) n (n + 1)) =
             rw (one, none, at, hits, cost) at
-            ((leaves (i + n) (omega (arith, bytes)) (r.stopped.found (omega arith))).feeds y refl (length ps - k - n) (omega (arith, room))) in
-            let all : GoesOn w piece i (i + n + 1) (length ps - k) (in_a_row (last + 1) n ++ []) x (further x 0 (n + 1) n (n + 1)) =
+            ((leaves (i + n) (omega (arith, bytes)) (r.stopped.found (omega arith))).feeds y refl (length ps - n) (omega (arith, room))) in
+            let all : GoesOn w piece i (i + n + 1) (length ps) (in_a_row (last + 1) n ++ []) x (further x 0 (n + 1) n (n + 1)) =
             goes_more w piece (omega arith) (omega arith) (row x e t) (rw size next) in
             rw append-nil at all
 

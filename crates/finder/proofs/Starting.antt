@@ -16,8 +16,7 @@ use Rattle.automaton.proofs.Counts.{below_suc, below_one}
 use Rattle.automaton.proofs.Steps.{steps_at_zero, step_none, step_one, step_not_one, forward_on, forward_off}
 use Rattle.codes.specs.Codes.{longest_code}
 use Rattle.finder.specs.declared.Led.{Led}
-use Rattle.finder.specs.Inside.{Skipped, Stayed, Leads, LedFrom, Readable, Startable, StayedOne, led_to}
-use Rattle.finder.proofs.Coded.{coded_bounds}
+use Rattle.finder.specs.Inside.{Skipped, Stayed, Leads, LedFrom, Readable, StayedOne, led_to}
 use Rattle.finder.proofs.Passing.{passed_none, passed_as, stopped_found}
 use Rattle.finder.proofs.Leading.{step_cheap, leads_none, leads_on, leads_step, leads_same, leads_other}
 
@@ -42,29 +41,25 @@ pub led_as : {w piece : List ℕ} {p i : ℕ} (s t : Led) → s ≡ t → LedFro
 led_as s t e m = rw e m
 
 -- the bytes from one index to index i lead to 0: one comparison for each, and the labels that failed besides
-pub record Started (w : List ℕ) (back : ℕ) (piece : List ℕ) (from failed i : ℕ) : Type 0 where
-  pub began : Startable w back piece from
+pub record Started (w piece : List ℕ) (from failed i : ℕ) : Type 0 where
+  pub some : 1 ≤ length w
+  pub few : length w ≤ longest_code
+  pub began : Readable w 0 piece from
   pub leads : Leads w piece 0 from 0 (i - from + failed) i
 
-pub startable : {bs w : List ℕ} {p : ℕ} {piece : List ℕ} {i : ℕ} → Readable bs w p piece i → (back : ℕ) → back ≡ arrows_below w 2 →
-    Startable w back piece i
-startable g back e =
-    let b = coded_bounds g.sheet in record { some = b.0; few = b.1; back_is = e; inside = g.inside; text = g.text }
-
-pub started : {w : List ℕ} {back : ℕ} {piece : List ℕ} {from : ℕ} → Startable w back piece from → Started w back piece from 0 from
-started {w} {back} {piece} {from} g =
+pub started : {w piece : List ℕ} {from : ℕ} → (1 ≤ length w) × (length w ≤ longest_code) → Readable w 0 piece from → Started w piece from 0 from
+started {w} {piece} {from} b g =
     let none : from - from + 0 ≡ 0 = omega arith in
     record {
+      some = b.0;
+      few = b.1;
       began = g;
-      leads = rw none (leads_none w piece 0 from g.some (omega (arith, g.inside)));
+      leads = rw none (leads_none w piece 0 from b.0 (omega (arith, g.inside)));
     }
 
-module _ {w : List ℕ} {back : ℕ} {piece : List ℕ} {from failed i : ℕ} (s : Started w back piece from failed i) where
-  some : 1 ≤ length w
-  some = s.began.some
-
+module _ {w piece : List ℕ} {from failed i : ℕ} (s : Started w piece from failed i) where
   cheap : (p c : ℕ) → p ≤ length w → (stepped w p c).cost ≤ longest_code
-  cheap p c h = step_cheap w p c h s.began.few
+  cheap p c h = step_cheap w p c h s.few
 
   -- what sums and calls need
   pub started_bounds : (from ≤ i) × (i ≤ length piece) × (i - from + failed ≤ longest_code * (i - from)) × (length piece ≤ longest_text)
@@ -85,8 +80,8 @@ module _ {w : List ℕ} {back : ℕ} {piece : List ℕ} {from failed i : ℕ} (s
     missed =
         let cost : i - from + failed + (j - i) ≡ j - from + failed = omega (arith, on, past) in
         rw cost at
-        (leads_on w piece s.leads some
-        (leads_other w piece some i j (passed_as k.passed (λ a n z. n (sym (label_suc w 0 ∙ z)))) k.within))
+        (leads_on w piece s.leads s.some
+        (leads_other w piece s.some i j (passed_as k.passed (λ a n z. n (sym (label_suc w 0 ∙ z)))) k.within))
 
     pub started_missed : length piece ≤ j → LedFrom w piece 0 from (led_to 0 from j failed)
     started_missed h = record { later = omega (arith, s.began.inside); leads = missed }
@@ -96,9 +91,9 @@ module _ {w : List ℕ} {back : ℕ} {piece : List ℕ} {from failed i : ℕ} (s
       first : Leads w piece 0 from 1 (j + 1 - from + failed) (j + 1)
       unfolding StepsAtZero
       first =
-          let is = (steps_at_zero w (get_or piece j 0) some).0 (sym (k.found here ∙ label_suc w 0)) in
+          let is = (steps_at_zero w (get_or piece j 0) s.some).0 (sym (k.found here ∙ label_suc w 0)) in
           let cost : j - from + failed + 1 ≡ j + 1 - from + failed = omega (arith, on, past) in
-          rw cost at (leads_step w piece missed some here (step 1 1 Forward) (sym is) (omega arith))
+          rw cost at (leads_step w piece missed s.some here (step 1 1 Forward) (sym is) (omega arith))
 
       pub started_first : LedFrom w piece 0 from (led_to 1 from (j + 1) failed)
       started_first = record { later = omega (arith, on, past); leads = first }
@@ -138,9 +133,11 @@ module _ {w : List ℕ} {back : ℕ} {piece : List ℕ} {from failed i : ℕ} (s
                     (sym (y.found there ∙ forward_on (arrows w 1) w 1 (get_or piece l 0) low (sym (f ∙ label_suc w 1)))) refl;
               }
 
-          pub started_again : get_or piece l 0 ≢ label w 2 → Started w back piece from (failed + n) (l + 1)
+          pub started_again : get_or piece l 0 ≢ label w 2 → Started w piece from (failed + n) (l + 1)
           started_again f =
               record {
+                some = s.some;
+                few = s.few;
                 began = s.began;
                 leads =
                     left (step 0 (suc (arrows w 1)) Nothing)

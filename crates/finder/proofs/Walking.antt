@@ -12,12 +12,11 @@ use Rattle.automaton.specs.Arrows.{stepped}
 use Rattle.codes.specs.Codes.{longest_code}
 use Rattle.finder.specs.declared.Led.{Led}
 use Rattle.finder.specs.Inside.{Leads, LedFrom, Begun, RanFrom, Readable, Running}
-use Rattle.finder.proofs.Coded.{coded_bounds}
 use Rattle.finder.proofs.Leading.{step_cheap, leads_none, leads_byte, leads_on}
 
 -- from index i in state p to index j in state q, at a cost of c; so far no byte was read, or one was
-pub record Ran (bs w : List ℕ) (p : ℕ) (piece : List ℕ) (i q c j : ℕ) : Type 0 where
-  pub began : Running bs w p piece i
+pub record Ran (w : List ℕ) (p : ℕ) (piece : List ℕ) (i q c j : ℕ) : Type 0 where
+  pub began : Running w p piece i
   pub on : i ≤ j
   pub within : j ≤ length piece
   pub state : q ≤ length w
@@ -25,8 +24,8 @@ pub record Ran (bs w : List ℕ) (p : ℕ) (piece : List ℕ) (i q c j : ℕ) : 
   pub still : j ≡ i → q ≡ p
   pub leads : (o from d : ℕ) → Leads w piece o from p d i → Leads w piece o from q (d + c) j
 
-pub ran_none : {bs w : List ℕ} {p : ℕ} {piece : List ℕ} {i : ℕ} → Running bs w p piece i → Ran bs w p piece i p 0 i
-ran_none {bs} {w} {p} {piece} {i} g =
+pub ran_none : {w : List ℕ} {p : ℕ} {piece : List ℕ} {i : ℕ} → Running w p piece i → Ran w p piece i p 0 i
+ran_none {w} {p} {piece} {i} g =
     record {
       began = g;
       on = le_refl i;
@@ -37,13 +36,13 @@ ran_none {bs} {w} {p} {piece} {i} g =
       leads = λ o from d l. rw (add-zero d) l;
     }
 
-module _ {bs w : List ℕ} {p : ℕ} {piece : List ℕ} {i q c j : ℕ} (s : Ran bs w p piece i q c j) where
+module _ {w : List ℕ} {p : ℕ} {piece : List ℕ} {i q c j : ℕ} (s : Ran w p piece i q c j) where
   -- one stretch more
   module _ (inside : j < length piece) (short : q < length w) where
-    pub ran_reading : Readable bs w q piece j
-    ran_reading = record { sheet = s.began.sheet; state = s.state; inside = inside; text = s.began.text }
+    pub ran_reading : Readable w q piece j
+    ran_reading = record { state = s.state; inside = inside; text = s.began.text }
 
-    pub ran_more : (t : Led) → LedFrom w piece q j t → Ran bs w p piece i t.state (c + t.cost) t.at
+    pub ran_more : (t : Led) → LedFrom w piece q j t → Ran w p piece i t.state (c + t.cost) t.at
     ran_more t v =
         let on : i ≤ j = s.on in
         let later : j < t.at = v.later in
@@ -83,7 +82,7 @@ module _ {bs w : List ℕ} {p : ℕ} {piece : List ℕ} {i q c j : ℕ} (s : Ran
   ran_to_place h = ended (λ some short. absurd (omega arith))
 
 -- HOW THEY BEGIN, in state p at index i
-module _ {bs w : List ℕ} {p : ℕ} {piece : List ℕ} {i : ℕ} (g : Readable bs w p piece i) where
+module _ {w : List ℕ} {p : ℕ} {piece : List ℕ} {i : ℕ} (g : Readable w p piece i) where
   -- from 0
   pub begun_zero : p ≡ 0 → (s : Led) → LedFrom w piece 0 i s → Begun w piece p i s
   begun_zero e s v =
@@ -91,9 +90,9 @@ module _ {bs w : List ℕ} {p : ℕ} {piece : List ℕ} {i : ℕ} (g : Readable 
       record { leads = rw e v.leads; still = λ z. absurd (omega arith) }
 
   -- from m
-  pub begun_step : (s : Step) → s ≡ stepped w p (get_or piece i 0) → Begun w piece p i (record { state = s.state; cost = s.cost; at = i + 1 })
-  begun_step s d =
-      let cheap : s.cost ≤ longest_code = rw d (step_cheap w p (get_or piece i 0) g.state (coded_bounds g.sheet).1) in
+  pub begun_step : length w ≤ longest_code → (s : Step) → s ≡ stepped w p (get_or piece i 0) → Begun w piece p i (record { state = s.state; cost = s.cost; at = i + 1 })
+  begun_step few s d =
+      let cheap : s.cost ≤ longest_code = rw d (step_cheap w p (get_or piece i 0) g.state few) in
       record { leads = leads_byte w piece p i g.state g.inside s d cheap; still = λ z. absurd (omega arith) }
 
   -- elsewhere
@@ -104,8 +103,8 @@ module _ {bs w : List ℕ} {p : ℕ} {piece : List ℕ} {i : ℕ} (g : Readable 
 
   -- AND GO ON
   module _ (s : Led) (v : Begun w piece p i s) where
-    pub begun_running : Running bs w s.state piece s.at
-    begun_running = record { sheet = g.sheet; state = v.leads.state; within = v.leads.within; text = g.text }
+    pub begun_running : Running w s.state piece s.at
+    begun_running = record { state = v.leads.state; within = v.leads.within; text = g.text }
 
     pub begun_end : (t : Led) → RanFrom w piece s.state s.at t →
         LedFrom w piece p i (record { state = t.state; cost = s.cost + t.cost; at = t.at })

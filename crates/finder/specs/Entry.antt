@@ -1,13 +1,12 @@
 -- What the entry point `feed` answers and leaves behind, and runs of it. Assumes nothing: these are definitions.
 use Rattle.std.specs.Prelude.{◌≡◌, not, List, [], ◌∷◌, ℕ, zero, suc, ◌+◌, ltb, eqb, length, take}
-use Rattle.runs.specs.declared.Ending.TheVariants.{Refused}
 use Rattle.words.specs.Words.{in_front}
-use Rattle.runs.specs.Reading.{longest_text, Fed, ending, ending_refusal}
+use Rattle.runs.specs.Reading.{longest_text, Fed, ending, ending_refusal, Refused}
+use Rattle.runs.specs.Answers.{Answer}
 use Rattle.runs.specs.Calls.{Outcome, run, Call}
 use Rattle.codes.specs.Refusals.{refused_if, first_refusal}
 use Rattle.sheets.specs.Sheet.{named, begins}
 use Rattle.finder.specs.declared.Watch.{Watch}
-use Rattle.finder.specs.declared.Feeding.{Feeding}
 use Rattle.finder.specs.Feed.{opened, fit, spots, feed}
 
 -- WHAT A CALL IS LENT: a piece of text, and a list for its places
@@ -20,7 +19,7 @@ lent cs a = record { piece = cs; list = a }
 
 -- A CALL: what it answers, and what was lent to it as it leaves that
 pub record FeedCall : Type 0 where
-  pub answer : Feeding
+  pub answer : Answer Watch
   pub left : Lent
 
 -- REFUSALS, from the buffer, the watch, and the lengths of the piece and of the list: 4, 5, 6, 7
@@ -53,7 +52,7 @@ unfoldable pub feed_call : (buffer : List ℕ) → Watch → Lent → FeedCall
 feed_call bs x l = call_by (feed_refusal bs x (length l.piece) (length l.list)) (named bs) x l
 
 -- what `feed` promises, its contract: the call is that one
-pub record FeedSays (buffer : List ℕ) (x : Watch) (before : Lent) (answer : Feeding) (after : Lent) : Type 0 where
+pub record FeedSays (buffer : List ℕ) (x : Watch) (before : Lent) (answer : Answer Watch) (after : Lent) : Type 0 where
   pub is : record { answer = answer; left = after } ≡ feed_call buffer x before
 
 -- A RUN from an opening on: every call gets the buffer and the watch answered before. Told is a part of each call: the places that it wrote, or its

@@ -1,15 +1,14 @@
 -- What the private functions of this crate need and promise. Assumes nothing: these are definitions.
-use Rattle.std.specs.Prelude.{◌≡◌, true, List, [], ◌∷◌, ◌++◌, ◌≢◌, ℕ, zero, suc, ◌+◌, ◌*◌, ◌-◌, ◌^◌, ◌≤◌, ◌<◌, min, length, get_or, take, drop}
+use Rattle.std.specs.Prelude.{◌≡◌, true, Option, Some, None, Ok, List, [], ◌∷◌, ◌++◌, ◌≢◌, ℕ, zero, suc, ◌+◌, ◌*◌, ◌-◌, ◌^◌, ◌≤◌, ◌<◌, min, length, get_or, take, drop}
 use Rattle.runs.specs.Reading.{longest_text, fed_more}
+use Rattle.runs.specs.declared.Feeding.{Feeding}
+use Rattle.runs.specs.Answers.{answer_of}
 use Rattle.automaton.specs.declared.Arrow.{Arrow}
 use Rattle.automaton.specs.declared.Arrow.TheVariants.{Back, Forward, Nothing}
-use Rattle.automaton.specs.Arrows.{label, all_targets, arrows, arrows_below, step, try_forward, stepped}
+use Rattle.automaton.specs.Arrows.{label, all_targets, arrows, step, try_forward, stepped}
 use Rattle.codes.specs.Codes.{longest_code}
-use Rattle.sheets.specs.Sheet.{number_width, named, begins}
+use Rattle.sheets.specs.Sheet.{named, begins}
 use Rattle.finder.specs.declared.Watch.{Watch}
-use Rattle.finder.specs.declared.Feeding.{Feeding}
-use Rattle.finder.specs.declared.Sought.{Sought}
-use Rattle.finder.specs.declared.Sought.TheVariants.{At, Nowhere}
 use Rattle.finder.specs.declared.Ahead.{Ahead}
 use Rattle.finder.specs.declared.Led.{Led}
 use Rattle.finder.specs.declared.piece.Turn.{Turn}
@@ -41,30 +40,19 @@ Skipped cs from c at = Reaches (Other cs c) (Here cs c) from (length cs) at
 abbrev pub Stayed : (piece : List ℕ) → (from c at : ℕ) → Type 0
 Stayed cs from c at = Reaches (Here cs c) (Other cs c) from (length cs) at
 
--- THE SHEET of a code of m bytes, with numbers of so many bytes
-pub record Sized (bs : List ℕ) (m width : ℕ) : Type 0 where
-  pub on : begins bs ≡ true
-  pub m_is : m ≡ length (named bs)
-  pub width_is : width ≡ number_width m
-
--- the sheet of code w
+-- THE SHEET of code w
 pub record Coded (bs w : List ℕ) : Type 0 where
   pub on : begins bs ≡ true
   pub code_is : w ≡ named bs
-
--- with numbers of so many bytes
-pub record Shaped (bs w : List ℕ) (width : ℕ) : Type 0 where
-  pub coded : Coded bs w
-  pub width_is : width ≡ number_width (length w)
 
 -- target number l of the code's
 abbrev pub target_of : (w : List ℕ) → (l : ℕ) → ℕ
 target_of w l = get_or (all_targets w) l 0
 
 -- of the targets from one number up to another, the first whose label is byte c
-abbrev pub SoughtBy : (w : List ℕ) → (from to c : ℕ) → Sought → Type 0
-SoughtBy w from to c (At l) = Passed (λ k. label w (target_of w k) ≢ c) from l × (l < to) × (label w (target_of w l) ≡ c)
-SoughtBy w from to c Nowhere = Passed (λ k. label w (target_of w k) ≢ c) from to
+abbrev pub SoughtBy : (w : List ℕ) → (from to c : ℕ) → Option ℕ → Type 0
+SoughtBy w from to c (Some l) = Passed (λ k. label w (target_of w k) ≢ c) from l × (l < to) × (label w (target_of w l) ≡ c)
+SoughtBy w from to c None = Passed (λ k. label w (target_of w k) ≢ c) from to
 
 -- the watch after n bytes that led to a state at a cost and completed so many places
 abbrev pub further : Watch → (state n hits cost : ℕ) → Watch
@@ -104,23 +92,13 @@ pub record RanFrom (w piece : List ℕ) (p i : ℕ) (s : Led) : Type 0 where
   pub leads : (o from cost : ℕ) → Leads w piece o from p cost i → Leads w piece o from s.state (cost + s.cost) s.at
 
 -- a byte can be read at index i in state p
-pub record Readable (bs w : List ℕ) (p : ℕ) (piece : List ℕ) (i : ℕ) : Type 0 where
-  pub sheet : Coded bs w
+pub record Readable (w : List ℕ) (p : ℕ) (piece : List ℕ) (i : ℕ) : Type 0 where
   pub state : p ≤ length w
   pub inside : i < length piece
   pub text : length piece ≤ longest_text
 
--- the same in state 0, given how many backward arrows state 1 has; no sheet is needed
-pub record Startable (w : List ℕ) (back : ℕ) (piece : List ℕ) (i : ℕ) : Type 0 where
-  pub some : 1 ≤ length w
-  pub few : length w ≤ longest_code
-  pub back_is : back ≡ arrows_below w 2
-  pub inside : i < length piece
-  pub text : length piece ≤ longest_text
-
--- the same in any state, if a byte is left
-pub record Running (bs w : List ℕ) (p : ℕ) (piece : List ℕ) (i : ℕ) : Type 0 where
-  pub sheet : Coded bs w
+-- the same, if a byte is left
+pub record Running (w : List ℕ) (p : ℕ) (piece : List ℕ) (i : ℕ) : Type 0 where
   pub state : p ≤ length w
   pub within : i ≤ length piece
   pub text : length piece ≤ longest_text
@@ -134,6 +112,7 @@ WentBy w piece p i n f Nothing = Leads w piece p i 0 (f + n + 1) (i + n + 1)
 
 pub record Went (w piece : List ℕ) (p i : ℕ) (a : Ahead) : Type 0 where
   pub bytes : i + a.bytes ≤ length piece
+  pub short : p + a.bytes ≤ longest_code
   pub few : a.failed ≤ longest_code
   pub by : WentBy w piece p i a.bytes a.failed a.arrow
 
@@ -147,25 +126,19 @@ StayedOne w cs from at =
 abbrev pub led_to : (state from at failed : ℕ) → Led
 led_to q i j f = record { state = q; cost = j - i + f; at = j }
 
--- THE LIST OF PLACES: it was ps with k places in front, and now some more are written behind them, n in all
-pub record Written (ps : List ℕ) (k : ℕ) (more : List ℕ) (n : ℕ) (qs : List ℕ) : Type 0 where
-  pub count : n ≡ k + length more
+-- THE LIST OF PLACES, or what is left of it: it was ps, and now n places are in front
+pub record Written (ps told : List ℕ) (n : ℕ) (qs : List ℕ) : Type 0 where
+  pub count : n ≡ length told
   pub room : n ≤ length qs
   pub size : length qs ≡ length ps
-  pub front : take n qs ≡ take k ps ++ more
+  pub front : take n qs ≡ told
   pub tail : drop n qs ≡ drop n ps
 
 -- what the last byte has completed can be written, and is; so many bytes of text were before the piece
-pub record Placing (m before : ℕ) (s : Led) (ps : List ℕ) (k : ℕ) : Type 0 where
-  pub room : k < length ps
+pub record Placing (m before : ℕ) (s : Led) (ps : List ℕ) : Type 0 where
+  pub room : 1 ≤ length ps
   pub reached : s.state ≤ before + s.at
   pub text : before + s.at ≤ longest_text
-
-pub record Placed (m before : ℕ) (s : Led) (k : ℕ) (ps : List ℕ) (t : Turn) (qs : List ℕ) : Type 0 where
-  pub state : t.state ≡ s.state
-  pub cost : t.cost ≡ s.cost
-  pub at : t.at ≡ s.at
-  pub written : Written ps k (completed m s.state (before + s.at)) t.written qs
 
 -- n numbers in a row
 unfoldable pub in_a_row : (first n : ℕ) → List ℕ
@@ -173,41 +146,37 @@ in_a_row a zero = []
 in_a_row a (suc n) = in_a_row a n ++ ((a + n) ∷ [])
 
 -- a place for each of the next bytes, behind the last place, can be written, and is for as many of them as are byte c
-pub record Repeating (piece : List ℕ) (from count : ℕ) (ps : List ℕ) (k last : ℕ) : Type 0 where
+pub record Repeating (piece : List ℕ) (from count : ℕ) (ps : List ℕ) (last : ℕ) : Type 0 where
   pub bytes : from + count ≤ length piece
-  pub room : k + count ≤ length ps
-  pub places : k + count ≤ longest_text
+  pub room : count ≤ length ps
   pub text : length piece ≤ longest_text
   pub below : last + count ≤ longest_text
 
-pub record Repeated (piece : List ℕ) (from count c k last : ℕ) (ps : List ℕ) (n : ℕ) (qs : List ℕ) : Type 0 where
+pub record Repeated (piece : List ℕ) (from count c last : ℕ) (ps : List ℕ) (n : ℕ) (qs : List ℕ) : Type 0 where
   pub stopped : Reaches (Here piece c) (Other piece c) from (from + count) (from + n)
-  pub written : Written ps k (in_a_row (last + 1) n) (k + n) qs
+  pub written : Written ps (in_a_row (last + 1) n) n qs
 
--- THE LOOP OVER A PIECE, which has so many bytes of text before it. A turn can start in state p at index i, with k places written
-pub record Turning (w : List ℕ) (before p : ℕ) (piece : List ℕ) (i : ℕ) (ps : List ℕ) (k : ℕ) : Type 0 where
-  pub some : 1 ≤ length w
-  pub few : length w ≤ longest_code
+-- THE LOOP OVER A PIECE, which has so many bytes of text before it. A turn can start in state p at index i, with room for a place
+pub record Turning (w : List ℕ) (before p : ℕ) (piece : List ℕ) (i : ℕ) (ps : List ℕ) : Type 0 where
   pub state : p ≤ length w
   pub reached : p ≤ before + i
   pub inside : i < length piece
   pub text : before + length piece ≤ longest_text
-  pub room : k < length ps
-  pub fewer : k ≤ i
+  pub room : 1 ≤ length ps
 
 -- it has taken bytes and written the places that they completed, and feeding goes on behind them
-pub record Turned (w piece : List ℕ) (before p i k : ℕ) (ps : List ℕ) (t : Turn) (qs : List ℕ) : Type 0 where
+pub record Turned (w piece : List ℕ) (before p i : ℕ) (ps : List ℕ) (t : Turn) (qs : List ℕ) : Type 0 where
   pub told : List ℕ
-  pub written : Written ps k told t.written qs
-  pub few : length told ≤ t.at - i
-  pub later : i < t.at
-  pub within : t.at ≤ length piece
-  pub state : t.state ≤ length w
-  pub reached : t.state ≤ before + t.at
-  pub cheap : t.cost ≤ longest_code * (t.at - i)
+  pub written : Written ps told t.written qs
+  pub few : length told ≤ t.led.at - i
+  pub later : i < t.led.at
+  pub within : t.led.at ≤ length piece
+  pub state : t.led.state ≤ length w
+  pub reached : t.led.state ≤ before + t.led.at
+  pub cheap : t.led.cost ≤ longest_code * (t.led.at - i)
   pub feeds :
       (x : Watch) → x.state ≡ p → x.taken ≡ before + i →
-      GoesOn w piece i t.at (length ps - k) told x (further x t.state (t.at - i) (length told) t.cost)
+      GoesOn w piece i t.led.at (length ps) told x (further x t.led.state (t.led.at - i) (length told) t.led.cost)
 
 -- a watch with which n bytes more can be taken, for a code of m bytes: no byte costs more than the longest code has bytes
 pub record Ready (m : ℕ) (x : Watch) (n : ℕ) : Type 0 where
@@ -218,5 +187,5 @@ pub record Ready (m : ℕ) (x : Watch) (n : ℕ) : Type 0 where
   pub cheap : x.compares + longest_code * n < 2 ^ 63
 
 -- a piece was taken: the call is one that is not refused
-pub record Took (w : List ℕ) (x : Watch) (before : Lent) (answer : Feeding) (after : Lent) : Type 0 where
-  pub is : record { answer = answer; left = after } ≡ fed_call (feed w before.piece (length before.list) x) before
+pub record Took (w : List ℕ) (x : Watch) (before : Lent) (answer : Feeding Watch ℕ) (after : Lent) : Type 0 where
+  pub is : record { answer = answer_of x (Ok answer); left = after } ≡ fed_call (feed w before.piece (length before.list) x) before

@@ -2,8 +2,8 @@
 -- nothing.
 use Rattle.std.specs.Prelude.{◌≡◌, true, List, [], ◌∷◌, ◌++◌, map, ◌≢◌, ◌↔◌, ℕ, suc, ◌+◌, ◌≤◌, ◌<◌, length, take, drop}
 use Rattle.words.specs.Words.{byte, member, Every, Rising, state_of}
-use Rattle.runs.specs.declared.Ending.TheVariants.{PieceDone}
-use Rattle.runs.specs.Reading.{fed, ending_refusal, ending_full}
+use Rattle.runs.specs.Reading.{fed, ending_refusal, ending_full, PieceDone}
+use Rattle.runs.specs.Answers.{Answer}
 use Rattle.runs.specs.Calls.{Outcome, run, Call, called}
 use Rattle.automaton.specs.Ceilings.{byte_ceiling, total_ceiling}
 use Rattle.automaton.specs.Costs.{costs, sum}
@@ -11,7 +11,6 @@ use Rattle.codes.specs.Codes.{has_control, accepted}
 use Rattle.sheets.specs.Sheet.{sheet}
 use Rattle.sheets.specs.Entry.{prepare_refusal, prepare_buffer}
 use Rattle.finder.specs.declared.Watch.{Watch}
-use Rattle.finder.specs.declared.Feeding.{Feeding}
 use Rattle.finder.specs.Feed.{opened, fit, feeder, feed}
 use Rattle.finder.specs.Machine.{Machine, machine_start, call_refusal, machine_after, machine_refusals}
 use Rattle.finder.specs.Texts.{places, watch_of}
@@ -106,7 +105,7 @@ unfoldable pub RunsGrow : Type 0
 RunsGrow =
     (part : FeedCall → List ℕ) (buffer : List ℕ) →
     (feed_run part buffer [] ≡ record { after = opened; bytes = []; told = [] })
-    × ((ls : List Lent) (l : Lent) (r : Feeding) (a : Lent) →
+    × ((ls : List Lent) (l : Lent) (r : Answer Watch) (a : Lent) →
     let q = feed_run part buffer ls in
     FeedSays buffer q.after l r a →
     feed_run part buffer (ls ++ (l ∷ []))

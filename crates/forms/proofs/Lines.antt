@@ -2,7 +2,7 @@
 use mathlib.Core.Path.{◌≡◌, refl, sym, ap, ◌∙◌}
 use mathlib.Core.Bool.{Bool, true, false, ◌&&◌, cond}
 use mathlib.Core.List.{List, [], ◌∷◌, ◌++◌}
-use mathlib.Core.Logic.{◌≢◌}
+use mathlib.Core.Logic.{◌≢◌, ◌⊎◌, inl, inr}
 use Prim.Native.Nat.{ℕ, zero, suc, ◌+◌, ◌≤◌, ◌<◌, min, zero-le}
 use native.Mathlib.Nat.{zero-add}
 use native.Mathlib.Numerals.{add-one}
@@ -78,6 +78,12 @@ line_done n b a e = rw e (refl, refl)
 pub line_wrong : (n b : ℕ) (a : List ℕ) → b ≢ line_feed → After (Closed n) b a Wrong a
 unfolding line_after kept_after
 line_wrong n b a h = rw (ne_eqb b line_feed h) (refl, refl)
+
+-- a line that was read, or is wrong
+pub line_over : (l : Line) (b : ℕ) (a : List ℕ) → ((n : ℕ) × (l ≡ Done n)) ⊎ (l ≡ Wrong) → After l b a l a
+unfolding line_after kept_after
+line_over l b a (inl p) = rw p.1 (refl, refl)
+line_over l b a (inr e) = rw e (refl, refl)
 
 -- READING: one byte more or the input's end, while the line goes on; a line that is read stays as it is
 pub read_on : (b : ℕ) (bs a : List ℕ) (l m : Line) (c : List ℕ) → goes_on l ≡ true → After l b a m c → read l a (b ∷ bs) ≡ read m c bs

@@ -1,15 +1,16 @@
 -- Brackets in a code: what one byte does to their depth, and that codes which pair by depth are those that balance by count. Assumes nothing.
 use mathlib.Core.Path.{◌≡◌, refl, sym, ap, ◌∙◌}
-use mathlib.Core.Bool.{true, not, cond}
+use mathlib.Core.Bool.{Bool, true, false, not, cond, true≢false}
 use mathlib.Core.List.{List, [], ◌∷◌}
 use mathlib.Core.Logic.{◌≢◌}
-use Prim.Native.Nat.{ℕ, zero, suc, ◌+◌, ◌-◌, ◌≤◌, ◌<◌, zero-le}
+use Prim.Native.Nat.{ℕ, zero, suc, ◌+◌, ◌-◌, ◌^◌, ◌≤◌, ◌<◌, zero-le}
 use native.Mathlib.Nat.{add-zero}
 use native.Mathlib.Omega.{arith}
 use borrow.Author.Tests.{ltb-true, lt-ltb, eq-eqb, ne_eqb, eqb-true, eqb-false, not-true}
 use lib.Dec.{ltb, eqb}
 use lib.ListN.{take}
 use lib.Seq.{take-nil}
+use Rattle.std.specs.Prelude.{Option, Some, None, SomeIff}
 use Rattle.words.specs.Words.{Every}
 use Rattle.words.proofs.Tests.{by_eq, and_left, and_right, and_both}
 use Rattle.forms.specs.Line.{opening_bracket, closing_bracket, line_feed, deepest, of_code, depth_after, pairs}
@@ -40,6 +41,30 @@ depth_closing d b e = rw e refl
 pub depth_other : (d b : ℕ) → b ≢ opening_bracket → b ≢ closing_bracket → depth_after d b ≡ d
 unfolding depth_after
 depth_other d b f g = rw (ne_eqb b opening_bracket f, ne_eqb b closing_bracket g) refl
+
+-- how many are open behind a byte, if it may stand there
+pub behind_opening : (d b : ℕ) (r : Option ℕ) → b ≡ opening_bracket → SomeIff r (d + 1 < 2 ^ 64) (d + 1) → SomeIff r (of_code d b ≡ true) (depth_after d b)
+behind_opening d b (Some n) e h = (of_code_opening d b e ∙ lt-ltb d deepest (omega (arith, h.0)), h.1 ∙ sym (depth_opening d b e))
+behind_opening d b None e h = λ t. h (let deep : d < deepest = ltb-true d deepest (sym (of_code_opening d b e) ∙ t) in omega arith)
+
+pub behind_closing : (d b : ℕ) (r : Option ℕ) → b ≡ closing_bracket → SomeIff r (1 ≤ d) (d - 1) → SomeIff r (of_code d b ≡ true) (depth_after d b)
+behind_closing d b (Some n) e h = (of_code_closing d b e ∙ lt-ltb 0 d (omega (arith, h.0)), h.1 ∙ sym (depth_closing d b e))
+behind_closing d b None e h = λ t. h (let some : 0 < d = ltb-true 0 d (sym (of_code_closing d b e) ∙ t) in omega arith)
+
+pub behind_feed : (d b : ℕ) → b ≡ line_feed → of_code d b ≡ true → ⊥
+behind_feed d b e t =
+    let other : of_code d b ≡ not (eqb b line_feed) = of_code_other d b (λ o. omega (arith, e, o)) (λ s. omega (arith, e, s)) in
+    true≢false (sym t ∙ other ∙ ap not (eq-eqb b line_feed e))
+
+pub behind_other : (d b : ℕ) → b ≢ opening_bracket → b ≢ closing_bracket → b ≢ line_feed → (of_code d b ≡ true) × (d ≡ depth_after d b)
+behind_other d b o s f = (of_code_other d b o s ∙ ap not (ne_eqb b line_feed f), sym (depth_other d b o s))
+
+pub not_of_code : (d b : ℕ) → (of_code d b ≡ true → ⊥) → of_code d b ≡ false
+not_of_code d b h = go (of_code d b) h
+  where
+    go : (t : Bool) → (t ≡ true → ⊥) → t ≡ false
+    go true n = absurd (n refl)
+    go false n = refl
 
 -- THE COUNTS of a byte
 abbrev openings : List ℕ → ℕ

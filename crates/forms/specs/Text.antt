@@ -1,5 +1,5 @@
 -- THE FORMS that the program prints, one a line, in ASCII. Assumes nothing: these are definitions.
-use Rattle.std.specs.Prelude.{◌≡◌, cond, List, [], ◌∷◌, ◌++◌, ℕ, zero, suc, ◌+◌, ◌-◌, ◌/◌, ◌%◌, ◌≤◌, min, ltb, length}
+use Rattle.std.specs.Prelude.{◌≡◌, cond, List, [], ◌∷◌, ◌++◌, ℕ, zero, suc, ◌+◌, ◌-◌, ◌/◌, ◌%◌, ◌≤◌, min, ltb, length, take}
 use Prim.Native.String.{String}
 use Rattle.std.proofs.lemmas.List.Edits.{sets}
 use Rattle.forms.specs.Ascii.{ascii}
@@ -40,3 +40,11 @@ pub record Written (bytes : List ℕ) (at : ℕ) (a : List ℕ) (end : ℕ) (b :
 -- so written, bytes that are not more than `most`
 abbrev pub WrittenWithin : (most : ℕ) → (bytes : List ℕ) → (at : ℕ) → (a : List ℕ) → (end : ℕ) → (b : List ℕ) → Type 0
 WrittenWithin most bytes at a end b = Written bytes at a end b × (length bytes ≤ most)
+
+-- PUT on a page that has room for so many bytes: behind those before them, as many as have room
+pub record Put (bytes : List ℕ) (room : ℕ) (before after : List ℕ) : Type 0 where
+  pub has : after ≡ before ++ take (room - length before) bytes
+
+-- so put, bytes that are not more than `most`
+abbrev pub PutWithin : (most : ℕ) → (bytes : List ℕ) → (room : ℕ) → (before after : List ℕ) → Type 0
+PutWithin most bytes room a b = Put bytes room a b × (length bytes ≤ most)

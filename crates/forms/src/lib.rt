@@ -1,10 +1,14 @@
 // The program's forms: the line that its input begins with, and the lines that it prints.
 #![tactic(auto)]
 
-ghost use Rattle.std.specs.Prelude.{◌≡◌, true, [], ◌∷◌, ◌++◌, ◌*◌, length};
+ghost use Rattle.std.specs.Prelude.{◌≡◌, true, ◌++◌, ◌*◌, length, SomeIff};
 ghost use Rattle.forms.specs.Ascii.{ascii};
 ghost use Rattle.forms.specs.Text.{decimal, place_form, place_forms, end_form, refused_form, Written, WrittenWithin};
 ghost use Rattle.forms.specs.Line.{of_code, depth_after, line_after, kept_after, goes_on};
+
+mod page;
+
+pub use page::Page;
 
 // How far a code was read: so many of its bytes were kept, and so many of its brackets are open.
 #[derive(Clone, Copy)]
@@ -28,56 +32,33 @@ pub enum Line {
 pub fn goes_on(line: Line) -> bool
     ensures { result ≡ goes_on line }
 {
-    match line {
-        Line::Opening(_) => true,
-        Line::Code(_) => true,
-        Line::Closed(_) => true,
-        Line::Done(_) => false,
-        Line::Wrong => false,
-    }
+    matches!(line, Line::Opening(_) | Line::Code(_) | Line::Closed(_))
 }
 
 // One byte of `(code `, after n.
 fn opening_byte(n: usize, byte: u8) -> Line
     ensures { result ≡ line_after 0 (Line.Opening n) byte }
 {
-    let opening = [b'(', b'c', b'o', b'd', b'e', b' '];
-    if n < 6 {
-        if opening[n] == byte {
-            if n == 5 {
-                return Line::Code(Inside { kept: 0, depth: 0 });
-            }
-            return Line::Opening(n + 1);
-        }
+    let opening = b"(code ";
+    if n >= opening.len() || opening[n] != byte {
+        return Line::Wrong;
     }
-    Line::Wrong
+    if n == 5 {
+        return Line::Code(Inside { kept: 0, depth: 0 });
+    }
+    Line::Opening(n + 1)
 }
 
-// Whether a byte may stand in a code where so many brackets are open.
-fn of_code(depth: u64, byte: u8) -> bool
-    ensures { result ≡ of_code depth byte }
+// How many brackets are open behind a byte of a code, where so many are open before it, if it may stand there.
+fn depth_after(depth: u64, byte: u8) -> Option<u64>
+    ensures { SomeIff result (of_code depth byte ≡ true) (depth_after depth byte) }
 {
-    if byte == b'(' {
-        return depth < u64::MAX;
+    match byte {
+        b'(' => depth.checked_add(1),
+        b')' => depth.checked_sub(1),
+        b'\n' => None,
+        _ => Some(depth),
     }
-    if byte == b')' {
-        return 0 < depth;
-    }
-    byte != b'\n'
-}
-
-// How many brackets are open behind a byte that may stand there.
-fn depth_after(depth: u64, byte: u8) -> u64
-    requires { of_code depth byte ≡ true }
-    ensures { result ≡ depth_after depth byte }
-{
-    if byte == b'(' {
-        return depth + 1;
-    }
-    if byte == b')' {
-        return depth - 1;
-    }
-    depth
 }
 
 // One byte of the code, or the bracket that closes it. Of a code with more bytes than have room the rest is not kept.
@@ -86,13 +67,13 @@ fn code_byte(inside: Inside, byte: u8, kept: &mut [u8]) -> Line
         × (kept.new ≡ kept_after (Line.Code inside) byte kept.old) }
 {
     let n = inside.kept;
-    if !of_code(inside.depth, byte) {
-        if byte == b')' {
-            return Line::Closed(n);
-        }
-        return Line::Wrong;
-    }
-    let depth = depth_after(inside.depth, byte);
+    let Some(depth) = depth_after(inside.depth, byte) else {
+        return if byte == b')' {
+            Line::Closed(n)
+        } else {
+            Line::Wrong
+        };
+    };
     if n < kept.len() {
         kept[n] = byte;
         return Line::Code(Inside { kept: n + 1, depth });
@@ -107,40 +88,25 @@ pub fn line_byte(line: Line, byte: u8, kept: &mut [u8]) -> Line
     match line {
         Line::Opening(n) => opening_byte(n, byte),
         Line::Code(inside) => code_byte(inside, byte, kept),
-        Line::Closed(n) => {
-            if byte == b'\n' {
-                Line::Done(n)
-            } else {
-                Line::Wrong
-            }
-        }
-        Line::Done(n) => Line::Done(n),
-        Line::Wrong => Line::Wrong,
+        Line::Closed(n) if byte == b'\n' => Line::Done(n),
+        Line::Closed(_) => Line::Wrong,
+        Line::Done(_) | Line::Wrong => line,
     }
 }
 
-// Writes a byte at a place, if that is inside the buffer; the next place.
-fn put_byte(buffer: &mut [u8], at: usize, byte: u8) -> usize
-    ensures { Written (byte ∷ []) at buffer.old result buffer.new }
-{
-    if at < buffer.len() {
-        buffer[at] = byte;
-        return at + 1;
-    }
-    at
-}
+// WRITING. The functions down to the end take any buffer and any place in it, and so they stay beside the methods of a page, which owns its buffer. Their
+// contracts name each byte and where it ends, which the library's formatting does not.
 
 // Writes bytes from a place on, as many as have room; where they end.
 pub fn put(buffer: &mut [u8], at: usize, bytes: &[u8]) -> usize
     ensures { Written bytes.now at buffer.old result buffer.new }
 {
-    let mut end = at;
-    let mut i = 0;
-    while i < bytes.len() {
-        end = put_byte(buffer, end, bytes[i]);
-        i += 1;
+    if buffer.len() <= at {
+        return at;
     }
-    end
+    let n = usize::min(bytes.len(), buffer.len() - at);
+    buffer[at..at + n].copy_from_slice(&bytes[..n]);
+    at + n
 }
 
 // Writes bytes and a number's decimal digits behind them.
@@ -165,7 +131,7 @@ fn put_form(buffer: &mut [u8], at: usize, bytes: &[u8], n: u64) -> usize
 fn put_place(buffer: &mut [u8], at: usize, place: u32) -> usize
     ensures { WrittenWithin 16 (place_form place) at buffer.old result buffer.new }
 {
-    put_form(buffer, at, b"(at ", place as u64)
+    put_form(buffer, at, b"(at ", u64::from(place))
 }
 
 // Writes the forms of places, each of 16 bytes at most.
@@ -173,10 +139,8 @@ pub fn put_places(buffer: &mut [u8], at: usize, places: &[u32]) -> usize
     ensures { WrittenWithin (16 * length places.now) (place_forms places.now) at buffer.old result buffer.new }
 {
     let mut end = at;
-    let mut i = 0;
-    while i < places.len() {
-        end = put_place(buffer, end, places[i]);
-        i += 1;
+    for &place in places {
+        end = put_place(buffer, end, place);
     }
     end
 }
@@ -185,15 +149,15 @@ pub fn put_places(buffer: &mut [u8], at: usize, places: &[u32]) -> usize
 pub fn put_end(buffer: &mut [u8], at: usize, bytes: u32, hits: u32, compares: u64) -> usize
     ensures { WrittenWithin 75 (end_form bytes hits compares) at buffer.old result buffer.new }
 {
-    let a = put_number(buffer, at, b"(end (bytes ", bytes as u64);
-    let b = put_number(buffer, a, b") (hits ", hits as u64);
+    let a = put_number(buffer, at, b"(end (bytes ", u64::from(bytes));
+    let b = put_number(buffer, a, b") (hits ", u64::from(hits));
     let c = put_number(buffer, b, b") (compares ", compares);
     put(buffer, c, b"))\n")
 }
 
-// Writes the form of a refusal, of 21 bytes at most.
+// Writes the form of a refusal, of 21 bytes at most: its number, whatever that stands for.
 pub fn put_refused(buffer: &mut [u8], at: usize, number: u32) -> usize
     ensures { WrittenWithin 21 (refused_form number) at buffer.old result buffer.new }
 {
-    put_form(buffer, at, b"(refused ", number as u64)
+    put_form(buffer, at, b"(refused ", u64::from(number))
 }

@@ -22,9 +22,6 @@ pub record Copied (target before word : List ℕ) (i : ℕ) : Type 0 where
   pub size : length word ≡ length before
   pub front : take i word ≡ take i target
 
-pub copied_start : (target before : List ℕ) → Copied target before before 0
-copied_start target before = record { size = refl; front = refl }
-
 module _ {target before word : List ℕ} {i : ℕ} (f : Copied target before word i) where
   pub copied_turn : (v : ℕ) → i < length word → i < length target → v ≡ byte target i → Copied target before (set word i v) (i + 1)
   unfolding byte

@@ -2,7 +2,7 @@
 use mathlib.Core.Path.{◌≡◌, refl, ap, ◌∙◌}
 use mathlib.Core.Bool.{true}
 use mathlib.Core.List.{List, [], ◌∷◌, ◌++◌}
-use Prim.Native.Nat.{ℕ, ◌+◌, ◌^◌, ◌≤◌, ◌<◌}
+use Prim.Native.Nat.{ℕ, ◌+◌, ◌≤◌, ◌<◌}
 use native.Mathlib.Omega.{arith}
 use lib.ListN.{length}
 use lib.Seq.{take_all}
@@ -15,8 +15,7 @@ use Rattle.automaton.specs.Promise.{LogarithmRight}
 use Rattle.automaton.proofs.Logarithm.{exponent_less, logarithm_right}
 use Rattle.automaton.proofs.Costs.{costs_snoc}
 use Rattle.runs.specs.Calls.{called, unless_refused}
-use Rattle.codes.specs.declared.Answer.TheVariants.{Value}
-use Rattle.codes.specs.Refusals.{refused_if, first_refusal}
+use Rattle.codes.specs.Refusals.{Value, refused_if, first_refusal}
 use Rattle.codes.specs.Codes.{length_refusal, longest_code, code_refusal, accepted}
 use Rattle.codes.specs.Entry.{byte_answer, total_answer}
 use Rattle.codes.specs.Promise.{CodesAccepted}
@@ -27,7 +26,7 @@ use Rattle.sheets.proofs.Entries.{prepare_roomy}
 use Rattle.finder.specs.declared.Watch.{Watch}
 use Rattle.finder.specs.Feed.{feed}
 use Rattle.finder.specs.Texts.{watch_of}
-use Rattle.finder.specs.Machine.{machine_start, call_refusal, machine_call, machine_after}
+use Rattle.finder.specs.Machine.{machine_start, call_refusal, machine_after}
 use Rattle.finder.specs.Entry.{lent, feed_run, told_places, plain}
 use Rattle.finder.specs.Promise.{PreparedCount}
 use Rattle.finder.proofs.Places.{feed_whole}

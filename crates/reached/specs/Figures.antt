@@ -1,26 +1,9 @@
--- What the program's functions ask for and promise: lines in which the cost is the ceiling. Assumes nothing: these are definitions.
-use Rattle.std.specs.Prelude.{◌≡◌, true, List, ◌++◌, ℕ, ◌+◌, ◌≤◌, ◌<◌}
+-- What the program's functions promise: lines in which the cost is the ceiling. Assumes nothing: these are definitions.
+use Rattle.std.specs.Prelude.{List, ◌++◌, ℕ, ◌+◌}
 use Rattle.automaton.specs.Ceilings.{log2, total_ceiling}
-use Rattle.codes.specs.Codes.{accepted}
 use Rattle.forms.specs.Ascii.{ascii}
 use Rattle.forms.specs.Text.{decimal, with_number}
 use Rattle.reached.specs.declared.Figures.{Figures}
-
--- ROOM for a text of n bytes, in a buffer for a sheet and a list of so many
-pub record Room (n buffer list : ℕ) : Type 0 where
-  pub few : n ≤ 4294967295
-  pub sheet : 20005 ≤ buffer
-  pub places : n < list
-
--- with an accepted code, and with the length of one
-pub record Countable (code : List ℕ) (n buffer list : ℕ) : Type 0 where
-  pub good : accepted code ≡ true
-  pub room : Room n buffer list
-
-pub record Lengths (m n buffer list : ℕ) : Type 0 where
-  pub some : 1 ≤ m
-  pub short : m ≤ 4000
-  pub room : Room n buffer list
 
 -- WHAT IS SHOWN of m and n: the total ceiling, or the byte ceiling, twice, once as what was counted and once as what the library answers
 abbrev pub reaching : (m n ceiling : ℕ) → Figures

@@ -3,7 +3,7 @@ use Rattle.std.specs.Prelude.{◌≡◌, true, List, [], ◌∷◌, ◌++◌, �
 use Rattle.words.specs.Words.{Every}
 use Rattle.automaton.specs.Ceilings.{log2, byte_ceiling, total_ceiling}
 use Rattle.automaton.specs.Costs.{cost_after, costs, sum}
-use Rattle.codes.specs.declared.Answer.TheVariants.{Value}
+use Rattle.codes.specs.Refusals.{Value}
 use Rattle.codes.specs.Codes.{accepted}
 use Rattle.codes.specs.Entry.{byte_answer, total_answer}
 use Rattle.sheets.specs.Entry.{prepare_refusal, prepare_buffer}

@@ -4,24 +4,28 @@
 // counted: that is read in `costly` and `steep`.
 #![tactic(auto)]
 
-ghost use Rattle.std.specs.Prelude.{◌≡◌, ◌+◌, ◌^◌, ◌≤◌, ◌<◌, length, take};
+ghost use Rattle.std.specs.Prelude.{◌≡◌, true, ◌+◌, ◌^◌, ◌≤◌, ◌<◌, length, take};
 ghost use Rattle.words.specs.Words.{byte};
 ghost use Rattle.automaton.specs.Ceilings.{log2};
 ghost use Rattle.automaton.specs.Costs.{cost_after};
+ghost use Rattle.codes.specs.Codes.{accepted};
 ghost use Rattle.finder.specs.Texts.{watch_of};
-ghost use Rattle.forms.specs.Text.{WrittenWithin};
+ghost use Rattle.forms.specs.Text.{PutWithin};
 ghost use Rattle.reached.specs.Words.{spaced_byte, spaced, steep_code};
-ghost use Rattle.reached.specs.Figures.{Countable, Lengths, total_figures, byte_figures, figures_form, total_form, byte_form};
+ghost use Rattle.reached.specs.Figures.{total_figures, byte_figures, figures_form, total_form, byte_form};
 
 use finder::Watch;
+use forms::Page;
 
 // The longest text here: a prime, so that no code but one of a single byte ends where it ends.
 const TEXT: usize = 10007;
 
-// Room for the longest code, and for its sheet.
+// Room for the longest code, for its sheet, and for a line.
 const CODE: usize = codes::LONGEST as usize;
 
 const SHEET: usize = 5 * CODE + 5;
+
+const LINE: usize = 97;
 
 // What a line shows.
 #[derive(Clone, Copy)]
@@ -38,9 +42,9 @@ fn spaced_byte(m: usize, i: usize) -> u8
     ensures { result ≡ spaced_byte m i }
 {
     if i % m == 0 {
-        return 97;
+        return b'a';
     }
-    98
+    b'b'
 }
 
 // The first bytes of this word.
@@ -48,8 +52,8 @@ fn fill_spaced(word: &mut [u8], m: usize)
     requires { 1 ≤ m }
     ensures { word.new ≡ spaced m (length word.old) }
 {
-    for i in 0..word.len() {
-        word[i] = spaced_byte(m, i);
+    for (i, byte) in word.iter_mut().enumerate() {
+        *byte = spaced_byte(m, i);
     }
 }
 
@@ -57,142 +61,144 @@ fn fill_spaced(word: &mut [u8], m: usize)
 fn fill_ruler(word: &mut [u8])
     ensures { word.new ≡ steep_code (length word.old) }
 {
-    for i in 0..word.len() {
-        word[i] = 32 + (usize::trailing_zeros(i + 1) as u8);
+    for (i, byte) in word.iter_mut().enumerate() {
+        *byte = 32 + (usize::trailing_zeros(i + 1) as u8);
     }
 }
 
-// The watch after a text, from preparing the code and an opening on.
-fn count(code: &[u8], text: &[u8], sheet: &mut [u8], places: &mut [u32]) -> Watch
-    requires { Countable code.now (length text.now) (length sheet.old) (length places.old) }
-    ensures { result ≡ watch_of code.now text.now }
-{
-    sheets::prepare(code, sheet);
-    let f = finder::feed(sheet, Watch::open(), text, places);
-    f.watch
+// What a search is lent: room for the sheet of any code, and for every place that a text can have.
+#[derive(Drop)]
+struct Room {
+    sheet: [u8; SHEET],
+    places: [u32; TEXT + 1],
 }
 
-// Writes the costly code of m bytes and its text of n bytes. Answers what feeding the text costs, and the total ceiling.
-fn costly(code: &mut [u8], text: &mut [u8], sheet: &mut [u8], places: &mut [u32]) -> Figures
-    requires { Lengths (length code.old) (length text.old) (length sheet.old) (length places.old) }
-    ensures { result ≡ total_figures (length code.old) (length text.old) }
+impl Room {
+    fn new() -> Room {
+        Room {
+            sheet: [0; SHEET],
+            places: [0; TEXT + 1],
+        }
+    }
+
+    // The watch after a text, from preparing the code and an opening on.
+    fn count(&mut self, code: &[u8], text: &[u8]) -> Watch
+        requires { (accepted code.now ≡ true) × (length text.now ≤ 10007) }
+        ensures { result ≡ watch_of code.now text.now }
+    {
+        sheets::prepare(code, &mut self.sheet).unwrap();
+        let f = finder::feed(&self.sheet, Watch::open(), text, &mut self.places).unwrap();
+        f.watch
+    }
+
+    // What byte n of a code costs behind the bytes before it.
+    fn cost_behind(&mut self, code: &[u8], n: usize) -> u64
+        requires { (accepted code.now ≡ true) × (n < length code.now) × (length code.now ≤ 4000) }
+        ensures { result ≡ cost_after code.now (take n code.now) (byte code.now n) }
+    {
+        let before = self.count(code, &code[..n]);
+        let after = self.count(code, &code[..n + 1]);
+        after.compares - before.compares
+    }
+}
+
+// What feeding the costly code of m bytes its text of n bytes costs, and the total ceiling.
+fn costly(m: usize, n: usize) -> Figures
+    requires { (1 ≤ m) × (m ≤ 4000) × (n ≤ 10007) }
+    ensures { result ≡ total_figures m n }
 {
-    let m = code.len();
+    let mut bytes = [0u8; CODE];
+    let code = &mut bytes[..m];
     fill_spaced(code, m);
+    let mut bytes = [0u8; TEXT];
+    let text = &mut bytes[..n];
     fill_spaced(text, m);
-    let x = count(code, text, sheet, places);
-    let ceiling = codes::total_ceiling(m as u32, x.taken);
+    let x = Room::new().count(code, text);
     Figures {
         m: m as u32,
         n: x.taken,
         cost: x.compares,
-        ceiling: ceiling.value(),
+        ceiling: codes::total_ceiling(m as u32, x.taken).unwrap(),
     }
 }
 
-// What byte n of a code costs behind the bytes before it.
-fn cost_behind(code: &[u8], n: usize, sheet: &mut [u8], places: &mut [u32]) -> u64
-    requires { (n < length code.now) × Countable code.now (length code.now) (length sheet.old) (length places.old) }
-    ensures { result ≡ cost_after code.now (take n code.now) (byte code.now n) }
-{
-    let before = count(code, &code[..n], sheet, places);
-    let after = count(code, &code[..n + 1], sheet, places);
-    after.compares - before.compares
-}
-
-// Writes the steep code of m bytes. Answers what the byte behind its first n costs, and the byte ceiling.
-fn steep(code: &mut [u8], n: u32, sheet: &mut [u8], places: &mut [u32]) -> Figures
-    requires { Lengths (length code.old) (length code.old) (length sheet.old) (length places.old) × (n + 1 ≡ 2 ^ log2 (length code.old)) }
-    ensures { result ≡ byte_figures (length code.old) n }
-{
-    fill_ruler(code);
-    let cost = cost_behind(code, n as usize, sheet, places);
-    let ceiling = codes::byte_ceiling(code);
-    Figures {
-        m: code.len() as u32,
-        n: n,
-        cost: cost,
-        ceiling: ceiling.value(),
-    }
-}
-
-// Writes a line, of 97 bytes at most, to the start of a buffer: what is before the figures, and the figures. Answers where it ends.
-fn put_line(out: &mut [u8], start: &[u8], f: Figures) -> usize
-    requires { (length start.now ≤ 10) × (97 ≤ length out.old) }
-    ensures { WrittenWithin 97 (figures_form start.now f) 0 out.old result out.new }
-{
-    let a = forms::put_number(out, 0, start, f.m as u64);
-    let b = forms::put_number(out, a, b") (n ", f.n as u64);
-    let c = forms::put_number(out, b, b") (cost ", f.cost);
-    let d = forms::put_number(out, c, b") (ceiling ", f.ceiling);
-    forms::put(out, d, b"))\n")
-}
-
-// Writes the line of a costly code and its text.
-fn put_total(out: &mut [u8], m: usize, n: usize) -> usize
-    requires { (1 ≤ m) × (m ≤ 4000) × (n ≤ 10007) × (97 ≤ length out.old) }
-    ensures { WrittenWithin 97 (total_form m n) 0 out.old result out.new }
-{
-    let mut code = [0u8; CODE];
-    let mut text = [0u8; TEXT];
-    let mut sheet = [0u8; SHEET];
-    let mut places = [0u32; TEXT + 1];
-    let f = costly(&mut code[..m], &mut text[..n], &mut sheet, &mut places);
-    put_line(out, b"(total (m ", f)
-}
-
-// Writes the line of a steep code and the byte behind its first n.
-fn put_byte(out: &mut [u8], m: usize, n: u32) -> usize
-    requires { (1 ≤ m) × (m ≤ 4000) × (n + 1 ≡ 2 ^ log2 m) × (97 ≤ length out.old) }
-    ensures { WrittenWithin 97 (byte_form m n) 0 out.old result out.new }
-{
-    let mut code = [0u8; CODE];
-    let mut sheet = [0u8; SHEET];
-    let mut places = [0u32; CODE + 1];
-    let f = steep(&mut code[..m], n, &mut sheet, &mut places);
-    put_line(out, b"(byte (m ", f)
-}
-
-// Prints the first bytes of a buffer.
-fn show(out: &[u8], n: usize)
-    requires { n ≤ length out.now }
-{
-    io::write_all(1, &out[..n]);
-}
-
-// Prints the line of a costly code and its text.
-fn show_total(m: usize, n: usize)
-    requires { (1 ≤ m) × (m ≤ 4000) × (n ≤ 10007) }
-{
-    let mut out = [0u8; 97];
-    let end = put_total(&mut out, m, n);
-    show(&out, end);
-}
-
-// Prints the line of a steep code and the byte behind its first n.
-fn show_byte(m: usize, n: u32)
+// What the byte behind the first n of the steep code of m bytes costs, and the byte ceiling.
+fn steep(m: usize, n: u32) -> Figures
     requires { (1 ≤ m) × (m ≤ 4000) × (n + 1 ≡ 2 ^ log2 m) }
+    ensures { result ≡ byte_figures m n }
 {
-    let mut out = [0u8; 97];
-    let end = put_byte(&mut out, m, n);
-    show(&out, end);
+    let mut bytes = [0u8; CODE];
+    let code = &mut bytes[..m];
+    fill_ruler(code);
+    Figures {
+        m: m as u32,
+        n,
+        cost: Room::new().cost_behind(code, n as usize),
+        ceiling: codes::byte_ceiling(code).unwrap(),
+    }
 }
+
+// Writes a line, of 97 bytes at most: what is before the figures, and the figures.
+fn put_line(page: &mut Page<LINE>, start: &[u8], f: Figures)
+    requires { length start.now ≤ 10 }
+    ensures { PutWithin 97 (figures_form start.now f) 97 page.old page.new }
+{
+    page.put_number(start, u64::from(f.m));
+    page.put_number(b") (n ", u64::from(f.n));
+    page.put_number(b") (cost ", f.cost);
+    page.put_number(b") (ceiling ", f.ceiling);
+    page.put(b"))\n");
+}
+
+// Writes the line of a costly code and its text. The bounds of m stand in each contract: a type of them would be made for two tables of numbers alone.
+fn put_total(page: &mut Page<LINE>, m: usize, n: usize)
+    requires { (1 ≤ m) × (m ≤ 4000) × (n ≤ 10007) }
+    ensures { PutWithin 97 (total_form m n) 97 page.old page.new }
+{
+    put_line(page, b"(total (m ", costly(m, n));
+}
+
+// Writes the line of a steep code and the byte behind its first n. It stands beside `put_total`, since its contract names another form and other lengths.
+fn put_byte(page: &mut Page<LINE>, m: usize, n: u32)
+    requires { (1 ≤ m) × (m ≤ 4000) × (n + 1 ≡ 2 ^ log2 m) }
+    ensures { PutWithin 97 (byte_form m n) 97 page.old page.new }
+{
+    put_line(page, b"(byte (m ", steep(m, n));
+}
+
+// The lengths of which lines are printed: codes and texts, and codes with the bytes before the one that costs most.
+const TOTALS: [(usize, usize); 9] = [
+    (1, TEXT),
+    (2, TEXT),
+    (3, 0),
+    (3, 8),
+    (3, TEXT),
+    (255, TEXT),
+    (256, TEXT),
+    (4000, 100),
+    (4000, TEXT),
+];
+
+const BYTES: [(usize, u32); 7] = [
+    (1, 0),
+    (2, 1),
+    (3, 1),
+    (4, 3),
+    (255, 127),
+    (256, 255),
+    (4000, 2047),
+];
 
 fn main() {
-    show_total(1, TEXT);
-    show_total(2, TEXT);
-    show_total(3, 0);
-    show_total(3, 8);
-    show_total(3, TEXT);
-    show_total(255, TEXT);
-    show_total(256, TEXT);
-    show_total(4000, 100);
-    show_total(4000, TEXT);
-    show_byte(1, 0);
-    show_byte(2, 1);
-    show_byte(3, 1);
-    show_byte(4, 3);
-    show_byte(255, 127);
-    show_byte(256, 255);
-    show_byte(4000, 2047);
+    let mut page = Page::new();
+    for (m, n) in TOTALS {
+        page.clear();
+        put_total(&mut page, m, n);
+        io::write_all(1, page.bytes());
+    }
+    for (m, n) in BYTES {
+        page.clear();
+        put_byte(&mut page, m, n);
+        io::write_all(1, page.bytes());
+    }
 }

@@ -11,8 +11,7 @@ use lib.ListN.{length, get_or, take, drop, length-append, drop_of_length-le}
 use lib.Seq.{drop-cons}
 use borrow.Author.Tests.{lt-ltb, le-ltb, ltb-true}
 use Rattle.words.proofs.Tests.{by_le, and_left, and_right}
-use Rattle.runs.specs.declared.Ending.TheVariants.{PieceDone, ListFull}
-use Rattle.runs.specs.Reading.{Reader, Fed, fed, fed_more, feed, ending, ending_refusal, ending_full}
+use Rattle.runs.specs.Reading.{Reader, Fed, fed, fed_more, feed, ending, ending_refusal, ending_full, PieceDone, ListFull}
 
 -- SOME BYTES BEFORE what was fed
 module _ {X A : Type 0} where

@@ -1,3 +1,4 @@
+pub mod Refusals
 pub mod AdderSamples
 pub mod Over
 pub mod Places

@@ -1,8 +1,6 @@
 -- READING A TEXT IN PIECES, whatever reads it: what each byte adds, and a piece taken until it ends or the list is full. Assumes nothing: these are
 -- definitions.
 use Rattle.std.specs.Prelude.{Bool, ◌&&◌, cond, List, [], ◌∷◌, ◌++◌, ℕ, ◌+◌, ◌-◌, ltb, length}
-use Rattle.runs.specs.declared.Ending.{Ending}
-use Rattle.runs.specs.declared.Ending.TheVariants.{PieceDone, ListFull, Refused}
 
 -- the most bytes that are read from an opening on
 abbrev pub longest_text : ℕ
@@ -42,17 +40,22 @@ feed d [] k x = fed x 0 []
 feed d (c ∷ cs) k x =
     cond (ltb k d.needs) (fed x 0 []) (fed_more 1 (d.tells c x) (feed d cs (k - length (d.tells c x)) (d.byte c x)))
 
+-- HOW A CALL ENDS: the piece is done, the list is full and bytes of the piece are left, or it is refused with a number
+pub data Ended : Type 0 where
+  PieceDone ListFull : Ended
+  Refused : (number : ℕ) → Ended
+
 -- ITS ENDING: list full only when too few spots are free and bytes of the piece are left
-unfoldable pub ending : {X A : Type 0} → (needs : ℕ) → (piece : List ℕ) → (room : ℕ) → Fed X A → Ending
+unfoldable pub ending : {X A : Type 0} → (needs : ℕ) → (piece : List ℕ) → (room : ℕ) → Fed X A → Ended
 ending n cs k f = cond (ltb (k - length f.told) n && ltb f.taken (length cs)) ListFull PieceDone
 
 -- an ending's number of document 01's table, 0 for none, and whether it says list full (1) or not (0)
-abbrev pub ending_refusal : Ending → ℕ
+abbrev pub ending_refusal : Ended → ℕ
 ending_refusal PieceDone = 0
 ending_refusal ListFull = 0
 ending_refusal (Refused n) = n
 
-abbrev pub ending_full : Ending → ℕ
+abbrev pub ending_full : Ended → ℕ
 ending_full PieceDone = 0
 ending_full ListFull = 1
 ending_full (Refused n) = 0

@@ -1,8 +1,7 @@
 -- A small reader whose readings are worked out by hand: it adds the bytes up, tells the sum before a byte and the byte, and so needs two spots. Assumes
 -- nothing: these are definitions.
 use Rattle.std.specs.Prelude.{◌≡◌, List, [], ◌∷◌, ℕ, ◌+◌, ltb, length, cond}
-use Rattle.runs.specs.declared.Ending.TheVariants.{PieceDone, ListFull}
-use Rattle.runs.specs.Reading.{over, Reader, fed, feed, ending}
+use Rattle.runs.specs.Reading.{over, Reader, fed, feed, PieceDone, ListFull, ending}
 use Rattle.runs.specs.Calls.{run, Call, called}
 
 abbrev adder : Reader ℕ ℕ

@@ -9,10 +9,10 @@ mod controls;
 mod lengths;
 mod refusals;
 
-ghost use Rattle.std.specs.Prelude.{◌≤◌};
+ghost use Rattle.std.specs.Prelude.{◌≤◌, length};
 
-use codes::Answer;
-use finder::{Feeding, Watch};
+use finder::Watch;
+use runs::Refusal;
 
 // What each byte of a lent buffer is before a call.
 const UNTOUCHED: u8 = 238;
@@ -25,175 +25,81 @@ const UNWRITTEN: u32 = 4000000000;
 struct Tally {
     run: usize,
     wrong: usize,
+    ghost within: { wrong ≤ run },
 }
 
-// No samples yet.
-fn none() -> Tally
-    ensures { result.wrong ≤ result.run }
-{
-    Tally { run: 0, wrong: 0 }
-}
-
-// One sample more.
-fn add(t: Tally, right: bool) -> Tally
-    requires { t.wrong ≤ t.run }
-    ensures { result.wrong ≤ result.run }
-{
-    if t.run == usize::MAX {
-        return t;
+impl Tally {
+    // No samples yet.
+    fn new() -> Tally {
+        Tally { run: 0, wrong: 0 }
     }
-    if right {
-        return Tally {
-            run: t.run + 1,
-            wrong: t.wrong,
-        };
-    }
-    Tally {
-        run: t.run + 1,
-        wrong: t.wrong + 1,
-    }
-}
 
-// The sum, or the largest number.
-fn sum(a: usize, b: usize) -> usize {
-    if b <= usize::MAX - a {
-        return a + b;
-    }
-    usize::MAX
-}
-
-// A number as an index.
-fn wide(x: u32) -> usize {
-    x as usize
-}
-
-// A length as a number, at most the largest one.
-fn narrow(n: usize) -> u32 {
-    if n <= 4294967295 {
-        return n as u32;
-    }
-    4294967295
-}
-
-// The smaller number.
-fn least(a: usize, b: usize) -> usize
-    ensures { (result ≤ a) × (result ≤ b) }
-{
-    if a < b {
-        return a;
-    }
-    b
-}
-
-// The byte at an index, 0 behind the end.
-fn at(s: &[u8], i: usize) -> u8 {
-    if i < s.len() {
-        return s[i];
-    }
-    0
-}
-
-// Puts a byte at an index, if there is one.
-fn put(bytes: &mut [u8], i: usize, byte: u8) {
-    if i < bytes.len() {
-        bytes[i] = byte;
-    }
-}
-
-// The place at an index of a list, the largest number behind its end.
-fn place_at(list: &[u32], i: usize) -> usize {
-    if i < list.len() {
-        return wide(list[i]);
-    }
-    usize::MAX
-}
-
-// Whether two buffers hold the same bytes.
-fn same_bytes(a: &[u8], b: &[u8]) -> bool {
-    for i in 0..a.len() {
-        if at(a, i) != at(b, i) {
-            return false;
+    // One sample more.
+    fn add(&mut self, right: bool) {
+        if self.run < usize::MAX {
+            self.run += 1;
+            if !right {
+                self.wrong += 1;
+            }
         }
     }
-    a.len() == b.len()
+
+    // The group's name, how many samples it ran and how many of them were wrong.
+    fn print(&self, name: &[u8]) {
+        io::write_all(1, name);
+        io::write_all(1, b" ");
+        io::print_decimal(1, self.run as u64);
+        io::write_all(1, b", wrong ");
+        io::print_decimal(1, self.wrong as u64);
+        io::write_all(1, b"\n");
+    }
+}
+
+// Whether a buffer is as before a call.
+fn is_untouched(buffer: &[u8]) -> bool {
+    buffer.iter().all(|&byte| byte == UNTOUCHED)
+}
+
+// Whether a buffer starts with these bytes, and the byte behind them is as before.
+fn starts_with_just(buffer: &[u8], bytes: &[u8]) -> bool {
+    match buffer.strip_prefix(bytes) {
+        Some([first, ..]) => *first == UNTOUCHED,
+        _ => false,
+    }
 }
 
 // Whether a list starts with these places, and the rest of it is as before.
 fn is_list(list: &[u32], places: &[u32]) -> bool {
-    for i in 0..list.len() {
-        let place = if i < places.len() {
-            place_at(places, i)
-        } else {
-            wide(UNWRITTEN)
-        };
-        if place_at(list, i) != place {
-            return false;
-        }
+    match list.strip_prefix(places) {
+        Some(rest) => rest.iter().all(|&place| place == UNWRITTEN),
+        None => false,
     }
-    places.len() <= list.len()
 }
 
-// The part of a text from an offset to an end, as far as there is one.
-fn part(text: &[u8], from: usize, end: usize) -> &[u8] {
-    let e = least(end, text.len());
-    let a = least(from, e);
-    &text[a..e]
-}
-
-// Prepares in the first bytes of a buffer, at most so many.
-fn prepare_in(code: &[u8], buffer: &mut [u8], room: usize) -> Answer {
-    let n = least(room, buffer.len());
-    sheets::prepare(code, &mut buffer[0..n])
-}
-
-// Feeds with the first places of a list, at most so many.
-fn feed_in(sheet: &[u8], x: Watch, piece: &[u8], list: &mut [u32], room: usize) -> Feeding {
-    let n = least(room, list.len());
-    finder::feed(sheet, x, piece, &mut list[0..n])
-}
-
-// Whether an entry point answers this value. A refusal has the value 0, so it is asked too.
-fn answers(a: Answer, value: u64) -> bool {
-    (a.refusal() == 0) & (a.value() == value)
-}
-
-// Whether a feeding ended with this refusal, 0 for none, and with the list full (1) or not (0).
-fn ended(f: Feeding, refusal: u32, full: u32) -> bool {
-    let e = f.ending;
-    (e.refusal() == refusal) & (e.full() == full)
-}
-
-// The group's name, how many samples it ran and how many of them were wrong.
-fn print(name: &[u8], t: Tally) {
-    io::write_all(1, name);
-    io::write_all(1, b" ");
-    io::print_decimal(1, t.run as u64);
-    io::write_all(1, b", wrong ");
-    io::print_decimal(1, t.wrong as u64);
-    io::write_all(1, b"\n");
+// The number of a refusal in document 01's table, 0 for none: the samples are the document's, which has numbers.
+fn refusal<T: Drop>(answer: Result<T, Refusal>) -> u32 {
+    match answer {
+        Ok(_) => 0,
+        Err(refusal) => refusal.number(),
+    }
 }
 
 fn main() {
-    let sheets = bench::sheets();
-    let searches = bench::searches();
-    let errors = bench::errors();
-    let refused = refusals::refused();
-    let accepted = refusals::accepted();
-    let controls = controls::controls();
-    let lengths = lengths::lengths();
-    let board = board::board();
-    print(b"sheets", sheets);
-    print(b"searches", searches);
-    print(b"errors near at hand", errors);
-    print(b"refused", refused);
-    print(b"accepted on the other side", accepted);
-    print(b"control bytes", controls);
-    print(b"lengths", lengths);
-    print(b"board", board);
-    let bench = sum(sum(sheets.wrong, searches.wrong), errors.wrong);
-    let refusals = sum(refused.wrong, accepted.wrong);
-    let requests = sum(sum(controls.wrong, lengths.wrong), board.wrong);
-    let wrong = sum(sum(bench, refusals), requests);
+    let groups: [(&[u8], Tally); 8] = [
+        (b"sheets", bench::sheets()),
+        (b"searches", bench::searches()),
+        (b"errors near at hand", bench::errors()),
+        (b"refused", refusals::refused()),
+        (b"accepted on the other side", refusals::accepted()),
+        (b"control bytes", controls::controls()),
+        (b"lengths", lengths::lengths()),
+        (b"board", board::board()),
+    ];
+    let mut wrong: usize = 0;
+    for (name, tally) in groups {
+        tally.print(name);
+        wrong = wrong.saturating_add(tally.wrong);
+    }
     io::write_all(1, b"wrong ");
     io::print_decimal(1, wrong as u64);
     io::write_all(1, b"\n");

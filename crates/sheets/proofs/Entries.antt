@@ -9,25 +9,37 @@ use lib.Dec.{ltb, leb}
 use lib.ListN.{length, take, drop, length-drop}
 use lib.Seq.{take-append_seam, length-take-le}
 use borrow.Author.Tests.{ne_eqb, lt-ltb, le-ltb, le-leb}
+use Rattle.std.specs.Prelude.{Result, Ok, Err}
+use Rattle.std.specs.Result.{is_err}
 use Rattle.words.specs.Words.{same, in_front}
 use Rattle.words.proofs.Tests.{by_test, by_le, by_eq}
 use Rattle.words.proofs.Lists.{in_front_long}
-use Rattle.codes.specs.declared.Answer.TheVariants.{Value, Refused}
-use Rattle.codes.specs.Refusals.{refused_if, first_refusal}
+use Rattle.runs.specs.declared.Refusal.{Refusal}
+use Rattle.runs.specs.Refusals.{refusal_of}
+use Rattle.runs.proofs.Refusals.{number_some}
+use Rattle.codes.specs.Refusals.{Value, Refused, refused_if, first_refusal}
 use Rattle.codes.specs.Codes.{code_refusal, accepted}
 use Rattle.codes.specs.Promise.{AnswersTold}
 use Rattle.codes.proofs.Refusals.{none_of, first_here, answers_told, answered_value, answered_refusal, code_bounds, accepted_none, none_accepted}
 use Rattle.sheets.specs.Sheet.{number_width, code_start, sheet, sheet_room, longest_sheet, named_length, named, begins}
 use Rattle.sheets.specs.Entry.{prepare_refusal, prepare_answer, prepare_buffer, PrepareSays}
 use Rattle.sheets.specs.Promise.{RoomAsked, PrepareMakes, PreparingAnswers}
-use Rattle.sheets.specs.Inside.{FitsIn, SheetMade, Freshly}
+use Rattle.sheets.specs.Inside.{Numbered, SheetMade, Freshly}
 use Rattle.sheets.proofs.Widths.{start_range, short_target, wide_target, room_is, room_bound}
 use Rattle.sheets.proofs.Sheets.{begins_accepted, begins_bounds, begins_size, begins_long}
 
--- a code that is not refused, and room for its sheet
-pub fits_in : (w a : List ℕ) (width : ℕ) → code_refusal w ≡ 0 → width ≡ number_width (length w) → sheet_room (length w) ≤ length a → FitsIn w width a
-fits_in w a width none e room =
-    let b = code_bounds w none in record { some = b.0; numbered = record { few = b.1; width_is = e }; room = room }
+-- an answer is a refusal or has none
+pub err_refused : {A : Type 0} (r : Result A Refusal) → true ≡ is_err r → refusal_of r ≢ 0
+err_refused (Ok v) t = absurd (cc)
+err_refused (Err s) t = number_some s
+
+pub ok_passed : {A : Type 0} (r : Result A Refusal) → false ≡ is_err r → refusal_of r ≡ 0
+ok_passed (Ok v) t = refl
+ok_passed (Err s) t = absurd (cc)
+
+-- a code that is not refused may have a sheet
+pub numbered_by : (w : List ℕ) (width : ℕ) → code_refusal w ≡ 0 → width ≡ number_width (length w) → Numbered (length w) width
+numbered_by w width none e = let b = code_bounds w none in record { some = b.0; few = b.1; width_is = e }
 
 -- PREPARING
 module _ (w a : List ℕ) where
@@ -117,7 +129,7 @@ module _ (bs : List ℕ) where
   module _
       (code : List ℕ) (m start : ℕ) (m_is : m ≡ named_length bs) (start_is : start ≡ code_start m)
       (part : code ≡ take (start + m - start) (drop start bs)) where
-    code_named : code ≡ named bs
+    pub code_named : code ≡ named bs
     unfolding named
     code_named = let n : start + m - start ≡ m = omega arith in part ∙ rw (n, start_is, m_is) refl
 

@@ -1,26 +1,27 @@
 -- Filling a whole sheet: what is before the code and the code, then state by state. Assumes nothing.
-use mathlib.Core.Path.{◌≡◌, sym, ap, ◌∙◌}
-use mathlib.Core.List.{List, [], ◌∷◌, ◌++◌, append_assoc, append-nil}
+use mathlib.Core.Path.{◌≡◌, sym, ap, subst, ◌∙◌}
+use mathlib.Core.List.{List, [], ◌++◌, append_assoc, append-nil}
 use Prim.Native.Nat.{ℕ, suc, ◌+◌, ◌*◌, ◌≤◌, ◌<◌}
 use native.Mathlib.Numerals.{add-one}
 use native.Mathlib.Nat.{le_refl, zero-mul, mul-le-mul_right}
 use native.Mathlib.Omega.{arith}
-use lib.ListN.{length, get_or, take, set, length-append, length-set}
-use lib.Seq.{take-suc, length-take-le, sets}
+use lib.ListN.{length, take, drop, set, length-set}
+use lib.Seq.{sets, drop-drop}
+use Rattle.std.proofs.lemmas.List.Edits.{sets-eq}
 use Rattle.words.specs.Words.{border_of, in_front}
 use Rattle.automaton.specs.Arrows.{targets_below, arrows_below}
 use Rattle.automaton.proofs.Preparing.{dropped_is, border_one}
 use Rattle.automaton.proofs.Targets.{back_zero}
 use Rattle.automaton.proofs.Counts.{below_suc, below_one}
 use Rattle.automaton.proofs.FewArrows.{few_below}
-use Rattle.sheets.specs.declared.Filled.{Filled}
+use Rattle.sheets.specs.declared.filling.Filled.{Filled}
 use Rattle.sheets.specs.Sheet.{number, numbers, counts_below, layout, longest_short, number_width, front, code_start, sheet, count_place, target_place}
 use Rattle.sheets.specs.Sheet.{sheet_room}
-use Rattle.sheets.specs.Inside.{Writable, Numbered, FitsIn, Filling, FrontMade, CodeMade, header, FilledWith, FilledTo, StateReady, StateMade}
+use Rattle.sheets.specs.Inside.{Fits, FrontMade, CodeMade, header, FilledWith, FilledTo, StateMade}
 use Rattle.sheets.specs.Inside.{StatesMade, SheetMade}
 use Rattle.sheets.proofs.Layouts.{length_number, length_numbers, numbers_snoc}
-use Rattle.sheets.proofs.Widths.{short_front, wide_front, wide_width, front_long, width_range, count_next, count_rises, target_first, target_next}
-use Rattle.sheets.proofs.Widths.{target_rises, places_before, room_is, one_byte}
+use Rattle.sheets.proofs.Widths.{short_front, wide_front, wide_width, front_long, count_next, count_rises, target_first, target_next}
+use Rattle.sheets.proofs.Widths.{target_rises, places_before, room_is}
 use Rattle.sheets.proofs.Sheets.{length_sheet}
 use Rattle.sheets.proofs.Fillings.{fill_none, fill_self, fill_on, put_front, puts_front, fill_done}
 use Rattle.sheets.proofs.States.{length_header}
@@ -29,22 +30,11 @@ use Rattle.sheets.proofs.States.{length_header}
 pub room_before : (m : ℕ) → target_place m 0 ≤ sheet_room m
 room_before m = omega (arith, room_is m, target_rises m 0 m (omega arith))
 
--- a number of a code's sheet can be put where there is room
-pub writable : (b : List ℕ) (m width at v : ℕ) → Numbered m width → at + number_width m ≤ length b → v ≤ m → Writable b width at v
-writable b m width at v n room l =
-    record {
-      some = omega (arith, n.width_is, width_range m);
-      few = omega (arith, n.width_is, width_range m);
-      room = omega (arith, n.width_is, room);
-      one = λ e. let few = one_byte m (sym n.width_is ∙ e) in omega arith;
-      two = omega (arith, n.few);
-    }
-
--- so can a target
-pub target_room : {w b : List ℕ} {width : ℕ} → FitsIn w width b → (i : ℕ) → i < length w → target_place (length w) i + number_width (length w) ≤ length b
-target_room {w} {b} s i l =
+-- there is room for a target
+pub target_room : (w b : List ℕ) → Fits w b → (i : ℕ) → i < length w → target_place (length w) i + number_width (length w) ≤ length b
+target_room w b room i l =
     let m : ℕ = length w in
-    omega (arith, target_next m i, target_rises m (suc i) m l, room_is m, s.room)
+    omega (arith, target_next m i, target_rises m (suc i) m l, room_is m, room)
 
 -- WHAT IS BEFORE THE CODE
 module _ (m : ℕ) (a : List ℕ) (room : target_place m 0 ≤ length a) where
@@ -60,17 +50,16 @@ module _ (m : ℕ) (a : List ℕ) (room : target_place m 0 ≤ length a) where
       (puts_front (number 2 m) zero
       (omega (arith, length_number 2 m, places_before m, wide_width m h, h)) (omega (arith, length-set a 0 0, room)))
 
--- THE CODE, byte by byte
-pub code_more : {a b : List ℕ} (w : List ℕ) (i : ℕ) → i < length w → target_place (length w) 0 ≤ length b →
-    Filling (target_place (length w) 0) (front (length w) ++ take i w) [] a b →
-    Filling (target_place (length w) 0) (front (length w) ++ take (i + 1) w) [] a (set b (code_start (length w) + i) (get_or w i 0))
-code_more {a} {b} w i l h f =
+-- THE CODE, put behind it
+pub code_put : {a b : List ℕ} (w : List ℕ) (start : ℕ) → FrontMade (length w) a b → start ≡ code_start (length w) → target_place (length w) 0 ≤ length b →
+    CodeMade w a (take start b ++ (w ++ drop (length w) (drop start b)))
+code_put {a} {b} w start f e h =
     let m : ℕ = length w in
-    let size : length (front m ++ take i w) ≡ code_start m + i =
-    length-append (front m) (take i w) ∙ omega (arith, front_long m, length-take-le i w (omega arith)) in
-    let more : front m ++ take (i + 1) w ≡ (front m ++ take i w) ++ (get_or w i 0 ∷ []) =
-    rw (add-one i, take-suc w i 0 l) (sym (append_assoc (front m) (take i w) (get_or w i 0 ∷ []))) in
-    rw (more, ← size) (put_front f (get_or w i 0) (omega (arith, size, places_before m)) h)
+    let inside : start + m ≤ length b = omega (arith, e, places_before m, h) in
+    let at : start ≡ length (front m) = e ∙ sym (front_long m) in
+    rw (drop-drop m start b)
+    (subst (CodeMade w a) (sets-eq w b start inside ∙ append_assoc (take start b) w (drop (start + m) b))
+    (rw at (puts_front w f (omega (arith, front_long m, places_before m)) h)))
 
 -- STATE 0 has no targets
 none_below : (w : List ℕ) → targets_below w 1 ≡ []
@@ -89,7 +78,7 @@ unfolding header counts_below numbers
 header_none w = append-nil (front (length w) ++ w)
 
 -- A COUNT is put behind those that are there
-module _ (w ts : List ℕ) (r : ℕ) {a b : List ℕ} (f : FilledWith w r ts a b) (ok : r ≤ length w) (room : sheet_room (length w) ≤ length b) where
+module _ (w ts : List ℕ) (r : ℕ) {a b : List ℕ} (f : FilledWith w r ts a b) (ok : r ≤ length w) (room : Fits w b) where
   pub count_room : count_place (length w) r + number_width (length w) ≤ length b
   count_room =
       let m : ℕ = length w in
@@ -105,64 +94,47 @@ module _ (w ts : List ℕ) (r : ℕ) {a b : List ℕ} (f : FilledWith w r ts a b
       (omega (arith, room_before m, room)))
 
 -- the loop over the states: those below r are filled
-pub record FillingStates (w : List ℕ) (width : ℕ) (a b : List ℕ) (r : ℕ) (f : Filled) : Type 0 where
-  pub fits : FitsIn w width a
+pub record FillingStates (w a b : List ℕ) (r : ℕ) (f : Filled) : Type 0 where
   pub some : 1 ≤ r
   pub ok : r ≤ length w + 1
   pub filling : FilledTo w r a b
   pub stored_is : f.stored ≡ arrows_below w r
   pub border_is : r ≤ length w → f.border ≡ border_of w r
 
-pub states_start : {w a : List ℕ} {width : ℕ} → FitsIn w width a → FilledTo w 1 a a → FillingStates w width a a 1 (record { stored = 0; border = 0 })
-states_start {w} {a} s f =
+pub states_start : {w a : List ℕ} → FilledTo w 1 a a → FillingStates w a a 1 (record { stored = 0; border = 0 })
+states_start {w} {a} f =
     record {
-      fits = s;
       some = le_refl 1;
-      ok = omega (arith, s.some);
+      ok = omega arith;
       filling = f;
       stored_is = sym (below_one w);
       border_is = λ l. sym (border_one w);
     }
 
--- room goes on
-pub fits_on : {w a b : List ℕ} {width : ℕ} → FitsIn w width a → length b ≡ length a → FitsIn w width b
-fits_on s e = record { some = s.some; numbered = s.numbered; room = omega (arith, s.room, e) }
-
-module _ {w a b : List ℕ} {width r : ℕ} {f : Filled} (s : FillingStates w width a b r f) where
-  pub state_ready : r ≤ length w → StateReady w width b r f.border f.stored
-  state_ready l =
-      record {
-        fits = fits_on s.fits s.filling.long;
-        some = s.some;
-        ok = l;
-        border_is = s.border_is l;
-        stored_is = s.stored_is;
-        filling = fill_self s.filling;
-      }
-
+module _ {w a b : List ℕ} {r : ℕ} {f : Filled} (room : Fits w a) (s : FillingStates w a b r f) where
   module _ {d : List ℕ} {g : Filled} (l : r ≤ length w) (u : StateMade w r g b d) where
-    long : length d ≡ length a
+    pub long : length d ≡ length a
     long = u.filling.long ∙ s.filling.long
 
-    pub count_writable : Writable d width (count_place (length w) r) g.stored
-    count_writable =
-        writable d (length w) width (count_place (length w) r) g.stored s.fits.numbered
-        (count_room w (targets_below w (suc r)) r u.filling l (rw long s.fits.room)) (omega (arith, u.stored_is, few_below w r l))
+    pub count_inside : count_place (length w) r + number_width (length w) ≤ length d
+    count_inside = count_room w (targets_below w (suc r)) r u.filling l (rw long room)
 
-    counted : (e : List ℕ) → e ≡ sets d (count_place (length w) r) (number width g.stored) → FilledTo w (suc r) a e
+    pub count_few : g.stored ≤ length w
+    count_few = omega (arith, u.stored_is, few_below w r l)
+
+    counted : (e : List ℕ) → e ≡ sets d (count_place (length w) r) (number (number_width (length w)) g.stored) → FilledTo w (suc r) a e
     counted e is =
         let v : ℕ = number_width (length w) in
         let more : arrows_below w r ≤ arrows_below w (suc r) = omega (arith, below_suc w r) in
         let next : FilledWith w r (targets_below w (suc r)) a d =
         fill_on s.filling u.filling
         (omega (arith, length_numbers v (targets_below w r), length_numbers v (targets_below w (suc r)), mul-le-mul_right v more)) in
-        rw (is, s.fits.numbered.width_is, u.stored_is) (count_put w (targets_below w (suc r)) r next l (rw long s.fits.room))
+        rw (is, u.stored_is) (count_put w (targets_below w (suc r)) r next l (rw long room))
 
-    pub states_turn : (e : List ℕ) → e ≡ sets d (count_place (length w) r) (number width g.stored) → FillingStates w width a e (r + 1) g
+    pub states_turn : (e : List ℕ) → e ≡ sets d (count_place (length w) r) (number (number_width (length w)) g.stored) → FillingStates w a e (r + 1) g
     states_turn e is =
         rw (add-one r)
         (record {
-          fits = s.fits;
           some = omega arith;
           ok = omega arith;
           filling = counted e is;
@@ -180,25 +152,25 @@ sheet_parts : (w : List ℕ) → let d = number_width (length w) in header w (su
 unfolding header sheet layout
 sheet_parts w = simp append_assoc
 
-module _ {w a b : List ℕ} {width : ℕ} (s : FitsIn w width a) (f : CodeMade w a b) where
+module _ (w : List ℕ) {a b : List ℕ} (fits : Fits w a) (f : CodeMade w a b) where
   bare : FilledWith w 0 [] a b
   unfolding numbers
   bare = rw (header_none w) f
 
-  room : sheet_room (length w) ≤ length b
-  room = omega (arith, s.room, f.long)
+  room : Fits w b
+  room = omega (arith, fits, f.long)
 
-  pub zero_writable : Writable b width (count_place (length w) 0) 0
-  zero_writable = writable b (length w) width (count_place (length w) 0) 0 s.numbered (count_room w [] 0 bare (omega arith) room) (omega arith)
+  pub zero_inside : count_place (length w) 0 + number_width (length w) ≤ length b
+  zero_inside = count_room w [] 0 bare (omega arith) room
 
-  module _ {c : List ℕ} (is : c ≡ sets b (count_place (length w) 0) (number width 0)) where
+  module _ {c : List ℕ} (is : c ≡ sets b (count_place (length w) 0) (number (number_width (length w)) 0)) where
     zero_filled : FilledTo w 1 a c
     zero_filled =
-        rw (is, none_below w, s.numbered.width_is)
+        rw (is, none_below w)
         (rw (below_one w) at (count_put w [] 0 bare (omega arith) room))
 
-    pub then_states : FitsIn w width c × FilledTo w 1 c c
-    then_states = (fits_on s zero_filled.long, fill_self zero_filled)
+    pub then_states : Fits w c × FilledTo w 1 c c
+    then_states = (omega (arith, fits, zero_filled.long), fill_self zero_filled)
 
     module _ {d : List ℕ} {n : ℕ} (g : StatesMade w n c d) where
       none_first : length (numbers (number_width (length w)) (targets_below w 1)) ≤ length (numbers (number_width (length w)) (targets_below w (suc (length w))))
@@ -208,9 +180,6 @@ module _ {w a b : List ℕ} {width : ℕ} (s : FitsIn w width a) (f : CodeMade w
 
       whole : FilledTo w (suc (length w)) a d
       whole = fill_on zero_filled g.filling none_first
-
-      pub filled_size : length d ≡ length a
-      filled_size = whole.long
 
       pub few_targets : n ≤ length w
       few_targets = omega (arith, g.stored_is, few_below w (length w) (le_refl (length w)))

@@ -20,9 +20,9 @@ use Rattle.automaton.proofs.Counts.{below_zero, below_suc, below_rises, target_a
 use Rattle.automaton.proofs.Preparing.{kept_are, drops_inside, drops_end}
 use Rattle.automaton.proofs.FewArrows.{candidates_fit}
 use Rattle.automaton.proofs.Targets.{target_range}
-use Rattle.sheets.specs.declared.Filled.{Filled}
-use Rattle.sheets.specs.Sheet.{number, numbers, counts_below, number_width, front, count_place, target_place, sheet_room}
-use Rattle.sheets.specs.Inside.{Reads, StartRead, header, FilledWith, put_result, put_buffer, StateReady, StateMade, TargetReady}
+use Rattle.sheets.specs.declared.filling.Filled.{Filled}
+use Rattle.sheets.specs.Sheet.{number, numbers, counts_below, number_width, front, count_place, target_place}
+use Rattle.sheets.specs.Inside.{Reads, Numbered, StartRead, Fits, header, FilledWith, put_result, put_buffer, StateReady, StateMade, TargetReady}
 use Rattle.sheets.proofs.Layouts.{length_number, length_numbers, numbers_snoc, number_first, number_at, length_counts, count_at}
 use Rattle.sheets.proofs.Widths.{front_long, count_first, count_next, count_rises, target_first, target_from, target_next, target_rises, room_is}
 use Rattle.sheets.proofs.Widths.{count_from}
@@ -88,7 +88,7 @@ pub record Storing (w : List ℕ) (r : ℕ) (a b : List ℕ) (f : Filled) (left 
   pub fits : length have + length left ≤ r
 
 module _ {w a b : List ℕ} {r t : ℕ} {f : Filled} {left : List ℕ} (u : Storing w r a b f (t ∷ left))
-    (ok : r ≤ length w) (room : sheet_room (length w) ≤ length b) where
+    (ok : r ≤ length w) (room : Fits w b) where
   pub put_room : f.stored < r
   put_room = omega (arith, u.fits, u.stored_is)
 
@@ -145,7 +145,13 @@ pub record Copying (w a : List ℕ) (r β end : ℕ) (b : List ℕ) (f : Filled)
   pub storing : Storing w r a b f (drop j (back_targets w β))
 
 -- A STATE that is ready
-module _ {w a : List ℕ} {width r β k : ℕ} (s : StateReady w width a r β k) where
+module _ {w a : List ℕ} {width r : ℕ} {below : Filled} (n : Numbered (length w) width) (s : StateReady w a r below) where
+  abbrev β : ℕ
+  β = below.border
+
+  abbrev k : ℕ
+  k = below.stored
+
   pub border_under : β < r
   border_under = omega (arith, s.some, s.border_is, (longest_is w r s.some).bound)
 
@@ -154,7 +160,7 @@ module _ {w a : List ℕ} {width r β k : ℕ} (s : StateReady w width a r β k)
   count_in p l =
       let end : count_place (length w) p + number_width (length w) ≤ length (header w r) =
       omega (arith, length_header w r, count_next (length w) p, count_rises (length w) (suc p) r l) in
-      rw s.fits.numbered.width_is (front_part s.filling (count_place (length w) p) (number_width (length w)) end ∙ header_count w r p l)
+      rw n.width_is (front_part s.filling (count_place (length w) p) (number_width (length w)) end ∙ header_count w r p l)
 
   pub end_in : (end : ℕ) → Reads a width (count_place (length w) β) end → end ≡ arrows_below w (suc β)
   end_in end f = f (arrows_below w (suc β)) (count_in β border_under)
@@ -185,19 +191,19 @@ module _ {w a : List ℕ} {width r β k : ℕ} (s : StateReady w width a r β k)
         fits = candidates_fit w r s.some s.ok;
       })
 
-  pub first_ready : TargetReady w width a r (β + 1) k
+  pub first_ready : TargetReady w a r (β + 1) k
   first_ready =
       record {
-        fits = s.fits;
+        room = s.room;
         some = omega arith;
         inside = omega (arith, border_under, s.ok);
         ok = s.ok;
-        fewer = omega (arith, put_room first_storing s.ok s.fits.room, s.ok);
+        fewer = omega (arith, put_room first_storing s.ok s.room, s.ok);
       }
 
   pub first_put : {d : List ℕ} {f : Filled} → f ≡ put_result w r (β + 1) (record { stored = k; border = 0 }) →
       d ≡ put_buffer w r (β + 1) (record { stored = k; border = 0 }) a → Storing w r a d f (back_targets w β)
-  first_put e g = rw (e, g) (put_next first_storing s.ok s.fits.room)
+  first_put e g = rw (e, g) (put_next first_storing s.ok s.room)
 
   pub copy_start : {d : List ℕ} {f : Filled} (end start : ℕ) → end ≡ arrows_below w (suc β) → start ≡ arrows_below w β →
       Storing w r a d f (back_targets w β) → Copying w a r β end d f start
@@ -209,8 +215,8 @@ module _ {w a : List ℕ} {width r β k : ℕ} (s : StateReady w width a r β k)
     pub copied_size : length d ≡ length a
     copied_size = x.storing.filling.long
 
-    room : sheet_room (length w) ≤ length d
-    room = rw copied_size s.fits.room
+    room : Fits w d
+    room = rw copied_size s.room
 
     module _ (l : i < end) where
       more : x.j < arrows w β
@@ -233,7 +239,7 @@ module _ {w a : List ℕ} {width r β k : ℕ} (s : StateReady w width a r β k)
           ∙ ap (λ (ts : List ℕ). get_or ts i 0) x.storing.all
           ∙ ap (λ (n : ℕ). get_or (targets_below w (suc r)) n 0) x.i_is
           ∙ target_at w (suc r) β x.j (omega (arith, border_under)) more in
-          rw (s.fits.numbered.width_is, target_from (length w) i)
+          rw (n.width_is, target_from (length w) i)
           (mid_part x.storing.filling (i * v) v end
           ∙ rw (← append-nil (numbers v have)) (number_first v have [] i place)
           ∙ ap (number v) is)
@@ -248,11 +254,11 @@ module _ {w a : List ℕ} {width r β k : ℕ} (s : StateReady w width a r β k)
         next : Storing w r a d f (t ∷ drop (x.j + 1) (back_targets w β))
         next = rw left_is at x.storing
 
-        pub next_ready : TargetReady w width d r t f.stored
+        pub next_ready : TargetReady w d r t f.stored
         next_ready =
             let u = every_at (λ t. (1 ≤ t) × (t ≤ β)) (back_targets w β) x.j (target_range w β) more in
             record {
-              fits = record { some = s.fits.some; numbered = s.fits.numbered; room = room };
+              room = room;
               some = omega (arith, u, next_is t reads);
               inside = omega (arith, u, next_is t reads, s.ok, border_under);
               ok = s.ok;

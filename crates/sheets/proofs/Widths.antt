@@ -2,7 +2,7 @@
 use mathlib.Core.Path.{◌≡◌, refl, sym, ap, ◌∙◌}
 use mathlib.Core.List.{List, ◌∷◌}
 use mathlib.Core.Logic.{◌≢◌}
-use Prim.Native.Nat.{ℕ, zero, suc, ◌+◌, ◌*◌, ◌-◌, ◌/◌, ◌%◌, ◌≤◌, ◌<◌}
+use Prim.Native.Nat.{ℕ, suc, ◌+◌, ◌*◌, ◌/◌, ◌%◌, ◌≤◌, ◌<◌}
 use native.Mathlib.Numerals.{add-one}
 use native.Mathlib.Nat.{zero-mul, add-mul}
 use native.Mathlib.Omega.{arith}
@@ -12,7 +12,7 @@ use borrow.Author.Tests.{lt-ltb, le-ltb}
 use Rattle.words.proofs.Tests.{by_le}
 use Rattle.codes.specs.Codes.{longest_code}
 use Rattle.sheets.specs.Sheet.{number, longest_short, number_width, front, code_start, count_place, target_place, sheet_room, longest_sheet}
-use Rattle.sheets.specs.Inside.{Reads, StartRead}
+use Rattle.sheets.specs.Inside.{Reads}
 use Rattle.sheets.proofs.Layouts.{length_number}
 
 longest_room : longest_sheet ≡ 20005
@@ -136,6 +136,14 @@ module _ (m : ℕ) where
       (λ (h : m ≤ longest_short). rw (le-ltb longest_short m h) (omega (arith, short_target h m)))
       (λ (h : longest_short < m). rw (lt-ltb longest_short m h) (omega (arith, wide_target h m)))
 
+  pub short_room_is : m ≤ longest_short → sheet_room m ≡ 3 * m + 2
+  unfolding sheet_room
+  short_room_is h = rw (le-ltb longest_short m h) refl
+
+  pub wide_room_is : longest_short < m → sheet_room m ≡ 5 * m + 5
+  unfolding sheet_room
+  wide_room_is h = rw (lt-ltb longest_short m h) refl
+
   pub short_room : m ≤ longest_short → sheet_room m ≤ 767
   short_room h = omega (arith, room_is, short_target h m)
 
@@ -144,6 +152,10 @@ module _ (m : ℕ) where
       by_le m longest_short
       (λ (h : m ≤ longest_short). omega (arith, room_is, short_target h m, longest_room))
       (λ (h : longest_short < m). omega (arith, room_is, wide_target h m, longest_room))
+
+-- room for any sheet, in bytes
+pub room_most : (m : ℕ) → m ≤ longest_code → sheet_room m ≤ 20005
+room_most m l = omega (arith, room_bound m l, longest_room)
 
 -- A NUMBER read from its bytes
 module _ (bs : List ℕ) (at v : ℕ) where
@@ -169,14 +181,6 @@ module _ (bs : List ℕ) (width at r : ℕ) where
 
   pub reads_two : width ≡ 2 → r ≡ 256 * get_or bs at 0 + get_or bs (at + 1) 0 → Reads bs width at r
   reads_two e f v h = f ∙ read_two bs at v (rw e at h)
-
--- as the start of a state's targets
-pub start_none : (bs : List ℕ) (m width p : ℕ) → p ≡ 0 → StartRead bs m width p 0
-start_none bs m width p e = rw e refl
-
-pub start_above : (bs : List ℕ) (m width p r : ℕ) → p ≢ 0 → Reads bs width (count_place m (p - 1)) r → StartRead bs m width p r
-start_above bs m width zero r n f = absurd (n refl)
-start_above bs m width (suc q) r n f = let e : suc q - 1 ≡ q = omega arith in rw e at f
 
 -- A NUMBER PUT, by its width
 module _ (b : List ℕ) (width at v : ℕ) where

@@ -1,8 +1,7 @@
 -- What preparing answers and leaves behind. Assumes nothing: these are definitions.
 use Rattle.std.specs.Prelude.{◌≡◌, cond, List, [], ◌∷◌, ℕ, ltb, eqb, length}
 use Rattle.words.specs.Words.{in_front}
-use Rattle.codes.specs.declared.Answer.{Answer}
-use Rattle.codes.specs.Refusals.{refused_if, first_refusal, answered}
+use Rattle.codes.specs.Refusals.{Answer, refused_if, first_refusal, answered}
 use Rattle.codes.specs.Codes.{code_refusal}
 use Rattle.sheets.specs.Sheet.{sheet, sheet_room}
 

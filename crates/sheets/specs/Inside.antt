@@ -4,7 +4,7 @@ use Rattle.std.proofs.lemmas.List.Edits.{sets}
 use Rattle.words.specs.Words.{same, border_of, in_front}
 use Rattle.automaton.specs.Arrows.{targets_below, arrows_below}
 use Rattle.automaton.specs.Preparing.{candidates, drops, dropped}
-use Rattle.sheets.specs.declared.Filled.{Filled}
+use Rattle.sheets.specs.declared.filling.Filled.{Filled}
 use Rattle.codes.specs.Codes.{longest_code}
 use Rattle.sheets.specs.Sheet.{number, numbers, counts_below, number_width, front, sheet, count_place, target_place, sheet_room}
 
@@ -12,35 +12,20 @@ use Rattle.sheets.specs.Sheet.{number, numbers, counts_below, number_width, fron
 abbrev pub Reads : (buffer : List ℕ) → (width at r : ℕ) → Type 0
 Reads b d at r = (v : ℕ) → take d (drop at b) ≡ number d v → r ≡ v
 
--- a number can be put at a place
-pub record Writable (b : List ℕ) (width at v : ℕ) : Type 0 where
-  pub some : 1 ≤ width
-  pub few : width ≤ 2
-  pub room : at + width ≤ length b
-  pub one : width ≡ 1 → v < 256
-  pub two : v < 65536
-
--- the width of the numbers for a code of m bytes
+-- the width of the numbers for a code of m bytes, which may have a sheet
 pub record Numbered (m width : ℕ) : Type 0 where
+  pub some : 1 ≤ m
   pub few : m ≤ longest_code
   pub width_is : width ≡ number_width m
-
--- there is room for the count of its state p
-pub record CountedIn (b : List ℕ) (m width p : ℕ) : Type 0 where
-  pub numbered : Numbered m width
-  pub ok : p ≤ m
-  pub room : target_place m 0 ≤ length b
 
 -- what is read as the start of its targets is the count of the state below, and 0 where there is none
 abbrev pub StartRead : (buffer : List ℕ) → (m width p r : ℕ) → Type 0
 StartRead b m d zero r = r ≡ 0
 StartRead b m d (suc q) r = Reads b d (count_place m q) r
 
--- a code and a buffer with room for its sheet
-pub record FitsIn (w : List ℕ) (width : ℕ) (b : List ℕ) : Type 0 where
-  pub some : 1 ≤ length w
-  pub numbered : Numbered (length w) width
-  pub room : sheet_room (length w) ≤ length b
+-- a buffer has room for the sheet of a code
+abbrev pub Fits : (w b : List ℕ) → Type 0
+Fits w b = sheet_room (length w) ≤ length b
 
 -- a buffer b that was a: it has cs in front and ts from place n on; behind ts it is as it was
 pub record Filling (n : ℕ) (cs ts a b : List ℕ) : Type 0 where
@@ -69,8 +54,8 @@ abbrev pub FilledTo : (w : List ℕ) → (r : ℕ) → (a b : List ℕ) → Type
 FilledTo w r a b = FilledWith w r (targets_below w r) a b
 
 -- a target t of state r can be put behind those stored
-pub record TargetReady (w : List ℕ) (width : ℕ) (b : List ℕ) (r t stored : ℕ) : Type 0 where
-  pub fits : FitsIn w width b
+pub record TargetReady (w b : List ℕ) (r t stored : ℕ) : Type 0 where
+  pub room : Fits w b
   pub some : 1 ≤ t
   pub inside : t ≤ length w
   pub ok : r ≤ length w
@@ -85,12 +70,12 @@ unfoldable pub put_buffer : (w : List ℕ) → (r t : ℕ) → Filled → (buffe
 put_buffer w r t f b = cond (drops w r t) b (sets b (target_place (length w) f.stored) (number (number_width (length w)) t))
 
 -- state r can be filled: its longest border is known and the states below are there
-pub record StateReady (w : List ℕ) (width : ℕ) (b : List ℕ) (r border stored : ℕ) : Type 0 where
-  pub fits : FitsIn w width b
+pub record StateReady (w b : List ℕ) (r : ℕ) (below : Filled) : Type 0 where
+  pub room : Fits w b
   pub some : 1 ≤ r
   pub ok : r ≤ length w
-  pub border_is : border ≡ border_of w r
-  pub stored_is : stored ≡ arrows_below w r
+  pub border_is : below.border ≡ border_of w r
+  pub stored_is : below.stored ≡ arrows_below w r
   pub filling : FilledTo w r b b
 
 -- its targets are there

@@ -1,6 +1,6 @@
 -- Bytes that were moved, one part after another. Assumes nothing.
-use mathlib.Core.Path.{◌≡◌, refl, sym, subst}
-use mathlib.Core.Bool.{Bool, true, false, cond, true≢false}
+use mathlib.Core.Path.{◌≡◌, refl, subst}
+use mathlib.Core.Bool.{Bool, true, false, cond}
 use mathlib.Core.List.{List, [], ◌++◌}
 use Prim.Native.Nat.{ℕ, suc, ◌+◌, ◌-◌, ◌^◌, ◌≤◌, ◌<◌}
 use native.Mathlib.Omega.{arith}
@@ -8,15 +8,8 @@ use lib.ListN.{length, get_or, length-append, get_or-append}
 use lib.Seq.{get_or-append-add}
 use Rattle.words.specs.Words.{byte}
 use Rattle.words.proofs.Tests.{by_le}
-use Rattle.streams.specs.Receipts.{Told, CountedOn, Moved}
-use Rattle.streams.specs.Streams.{DoneOrTold, Rises}
-
--- something is done, or it is told that it is not
-pub is_done : {D E : Type 0} → D → DoneOrTold true D E
-is_done d = record { done = λ _. d; told = λ e. absurd (true≢false e) }
-
-pub is_told : {D E : Type 0} → Told → E → DoneOrTold false D E
-is_told t h = record { done = λ e. absurd (true≢false (sym e)); told = λ _. (t, h) }
+use Rattle.streams.specs.Receipts.{CountedOn, Moved}
+use Rattle.streams.specs.Streams.{Rises}
 
 -- NO BYTES, and one part after another
 pub moved_none : (P : ℕ → ℕ → Type 0) (at : ℕ) → Moved P at at []

@@ -1,7 +1,7 @@
 -- RECEIPTS for what the system did. No contract can say which bytes a call reads or writes, so these are shut names: anyone can state one, and its maker
 -- below makes it. Each maker is for one proof of this crate, as tests/receipts sees, of a function that does nothing but call the system: make_came and
 -- make_ended for `read_input`, make_sent for `write_output`, make_heard for `write_error`.
-use Rattle.std.specs.Prelude.{◌≡◌, List, [], ℕ, ◌+◌, ◌^◌, ◌≤◌, ◌<◌, ℤ, pos, length}
+use Rattle.std.specs.Prelude.{◌≡◌, List, [], ℕ, ◌+◌, ◌^◌, ◌≤◌, ◌<◌, length}
 use Rattle.words.specs.Words.{byte}
 use Rattle.forms.specs.Ascii.{ascii}
 
@@ -41,12 +41,12 @@ make_heard bs = tt
 abbrev pub Told : Type 0
 Told = Heard (ascii "not complete: ")
 
--- WHAT A READ ANSWERS, into a buffer, when `at` bytes had come: how many bytes it brought; none, if there is room for one, where the input ended; or a number
--- below 0
-pub record Answered (Byte : ℕ → ℕ → Type 0) (End : ℕ → Type 0) (at : ℕ) (got : ℤ) (buffer : List ℕ) : Type 0 where
-  pub within : (k : ℕ) → got ≡ pos k → k ≤ length buffer
-  pub bytes : (k : ℕ) → got ≡ pos k → (i : ℕ) → i < k → Byte (at + i) (byte buffer i)
-  pub ends : got ≡ pos 0 → 1 ≤ length buffer → End at
+-- WHAT A READ ANSWERS, into a buffer, when `at` bytes had come, if it did not fail: k, the bytes that it brought; none, if there is room for one, where the
+-- input ended
+pub record Answered (Byte : ℕ → ℕ → Type 0) (End : ℕ → Type 0) (at k : ℕ) (buffer : List ℕ) : Type 0 where
+  pub within : k ≤ length buffer
+  pub bytes : (i : ℕ) → i < k → Byte (at + i) (byte buffer i)
+  pub ends : k ≡ 0 → 1 ≤ length buffer → End at
 
 -- all bytes of a list were written when `at` bytes had been written before them
 abbrev pub AllSent : (at : ℕ) → (bytes : List ℕ) → Type 0

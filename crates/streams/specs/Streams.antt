@@ -1,17 +1,14 @@
 -- WHAT READING AND WRITING COME TO: the contracts of what speaks to the system. Assumes nothing: these are definitions.
-use Rattle.std.specs.Prelude.{◌≡◌, Bool, true, false, List, ◌++◌, ℕ, ◌^◌, ◌≤◌, ◌<◌, length, take}
+use Rattle.std.specs.Prelude.{◌≡◌, Bool, true, false, List, ◌++◌, ℕ, ◌^◌, ◌≤◌, ◌<◌, length, take, Result, MatchResult}
 use Rattle.forms.specs.declared.Line.{Line}
 use Rattle.forms.specs.declared.Line.TheVariants.{Wrong}
 use Rattle.forms.specs.Line.{goes_on, read}
-use Rattle.streams.specs.declared.Got.{Got}
-use Rattle.streams.specs.declared.Got.TheVariants.{Bytes, Failed}
-use Rattle.streams.specs.declared.Start.{Start}
+use Rattle.streams.specs.declared.NotComplete.{NotComplete}
 use Rattle.streams.specs.Receipts.{Came, Ended, Sent, Told, Broken, Moved, MayFollow}
 
 -- either something is done, or standard error was told that the search is not complete, and something else holds
-pub record DoneOrTold (ok : Bool) (Done Else : Type 0) : Type 0 where
-  pub done : ok ≡ true → Done
-  pub told : ok ≡ false → Told × Else
+abbrev pub DoneOrTold : {A : Type 0} → Result A NotComplete → (Done : A → Type 0) → (Else : Type 0) → Type 0
+DoneOrTold r Done Else = MatchResult r Done (λ _. Told × Else)
 
 -- READING: k bytes came into a buffer, fewer than `full` only where the input ended
 pub record Brought (full at k after : ℕ) (buffer : List ℕ) : Type 0 where
@@ -20,9 +17,8 @@ pub record Brought (full at k after : ℕ) (buffer : List ℕ) : Type 0 where
   pub ends : k < full → Ended after
 
 -- one read: or it failed, and none is counted
-abbrev pub ReadInto : (full at : ℕ) → Got → (after : ℕ) → (buffer : List ℕ) → Type 0
-ReadInto n at (Bytes k) after b = Brought n at k after b
-ReadInto n at Failed after b = Told × (after ≡ at)
+abbrev pub ReadInto : (full at : ℕ) → Result ℕ NotComplete → (after : ℕ) → (buffer : List ℕ) → Type 0
+ReadInto n at r after b = DoneOrTold r (λ k. Brought n at k after b) (after ≡ at)
 
 -- some bytes came
 pub record SomeCame (at after : ℕ) : Type 0 where
@@ -30,8 +26,8 @@ pub record SomeCame (at after : ℕ) : Type 0 where
   pub came : Moved Came at after bytes
 
 -- PRINTING: these bytes were sent, all of them, or none is counted
-abbrev pub SentOrTold : (at : ℕ) → (bytes : List ℕ) → (ok : Bool) → (after : ℕ) → Type 0
-SentOrTold at bs r after = DoneOrTold r (Moved Sent at after bs) (Broken at after)
+abbrev pub SentOrTold : (at : ℕ) → (bytes : List ℕ) → Result (Unit {0}) NotComplete → (after : ℕ) → Type 0
+SentOrTold at bs r after = DoneOrTold r (λ _. Moved Sent at after bs) (Broken at after)
 
 -- a list begins with another
 pub record PrefixOf (xs ys : List ℕ) : Type 0 where
@@ -55,9 +51,10 @@ pub record LineStopped (line : Line) (kept : List ℕ) (at : ℕ) (kept_after : 
   pub next : Line
   pub on : LineOn line kept at next kept_after after
 
--- what one byte of it, and the loop over its bytes, come to; more of it is to be read just as long as `read` goes on, and nothing failed
-pub record LineRead (line : Line) (kept : List ℕ) (at : ℕ) (r : Start) (kept_after : List ℕ) (after : ℕ) : Type 0 where
-  pub so_far :
-      DoneOrTold r.ok (LineOn line kept at r.line kept_after after × (r.more ≡ goes_on r.line))
-      (LineStopped line kept at kept_after after × (r.line ≡ Wrong))
-  pub goes : r.more ≡ true → r.ok ≡ true
+-- what one byte of it comes to: more of it is to be read just as long as `read` goes on, and then a byte came
+abbrev pub ByteRead : Line → (kept : List ℕ) → (at : ℕ) → Result Line NotComplete → (kept_after : List ℕ) → (after : ℕ) → Type 0
+ByteRead l a at r b after = DoneOrTold r (λ next. LineOn l a at next b after × Rises (goes_on next) at after) (LineStopped l a at b after)
+
+-- what the loop over its bytes comes to: nothing more of it is to be read
+abbrev pub LineRead : Line → (kept : List ℕ) → (at : ℕ) → Result Line NotComplete → (kept_after : List ℕ) → (after : ℕ) → Type 0
+LineRead l a at r b after = DoneOrTold r (λ next. LineOn l a at next b after × (goes_on next ≡ false)) (LineStopped l a at b after)

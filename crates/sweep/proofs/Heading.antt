@@ -1,47 +1,51 @@
 -- The head, line by line: what the loop over its lines keeps, and what it comes to. Assumes nothing.
 use mathlib.Core.Path.{◌≡◌, refl, sym, ◌∙◌}
-use mathlib.Core.Bool.{false}
+use mathlib.Core.Bool.{true≢false}
 use mathlib.Core.List.{List, [], ◌∷◌, ◌++◌, map, append_assoc}
-use Prim.Native.Nat.{ℕ, suc, ◌-◌, ◌^◌, ◌≤◌, ◌<◌}
+use Prim.Native.Nat.{ℕ, ◌-◌, ◌^◌, ◌≤◌, ◌<◌}
 use native.Mathlib.Omega.{arith}
-use lib.ListN.{length}
+use lib.ListN.{length, take}
+use lib.Seq.{length-take-le}
+use Rattle.std.specs.Prelude.{Result, Ok, Err, IsErr}
+use Rattle.runs.specs.declared.Refusal.{Refusal}
+use Rattle.streams.specs.declared.NotComplete.{NotComplete}
 use Rattle.forms.specs.Line.{line_feed}
-use Rattle.boards.specs.Board.{bytes_of, most_codes, most_bytes, board_room}
-use Rattle.streams.specs.Receipts.{Came, Moved}
+use Rattle.boards.specs.Board.{bytes_of, board_room}
+use Rattle.streams.specs.Receipts.{Came, Told, Moved}
 use Rattle.streams.proofs.Moving.{moved_none, moved_join}
 use Rattle.streams.specs.Streams.{SomeCame}
 use Rattle.sweep.specs.declared.head.Codes.{Codes}
-use Rattle.sweep.specs.Head.{code_line, code_lines, head_form, AllPaired, Headed}
+use Rattle.sweep.specs.Head.{code_line, code_lines, head_form, AllPaired, Headed, HeadRead}
 use Rattle.sweep.specs.Lines.{CodeCame, OtherCame, CodesKept, Adds, Prepares}
 use Rattle.sweep.proofs.Lines.{no_head_after, lines_more, paired_more}
-use Rattle.sweep.proofs.Keeping.{kept_none, never_8}
+use Rattle.sweep.proofs.Keeping.{never_8}
 
 -- LINES of codes came, and the codes are kept
-pub record CodesCame (at : ℕ) (c : Codes) (lengths bytes : List ℕ) (after : ℕ) : Type 0 where
+pub record CodesCame (at : ℕ) (c : Codes) (after : ℕ) : Type 0 where
   pub codes : List (List ℕ)
   pub came : Moved Came at after (code_lines codes)
   pub paired : AllPaired codes
-  pub kept : CodesKept codes c lengths bytes
+  pub kept : CodesKept codes c
 
-pub codes_none : (at : ℕ) (ls bs : List ℕ) → length ls ≡ suc most_codes → length bs ≡ suc most_bytes →
-    CodesCame at (record { count = 0; used = 0; empty = false; long = false }) ls bs at
+pub codes_none : (at : ℕ) {c : Codes} → CodesKept [] c → CodesCame at c at
 unfolding code_lines AllPaired
-codes_none at ls bs e f = record { codes = []; came = moved_none Came at; paired = tt; kept = kept_none ls bs e f }
+codes_none at k = record { codes = []; came = moved_none Came at; paired = tt; kept = k }
 
-module _ {at mid after : ℕ} {c : Codes} {ls bs : List ℕ} (s : CodesCame at c ls bs mid) where
+module _ {at mid after : ℕ} {c : Codes} (s : CodesCame at c mid) where
   -- one code more
-  pub codes_more : {n : ℕ} {b : List ℕ} {r : Codes} {ms ds : List ℕ} →
-      CodeCame mid n b after → Adds b n c ls bs r ms ds → CodesCame at r ms ds after
-  codes_more w f =
+  pub codes_more : {n : ℕ} {b : List ℕ} {d : Codes} → CodeCame mid n b after → Adds (take n b) c d → CodesCame at d after
+  codes_more {n} {b} w f =
+      let i = w.kept in
+      let long : length (take n b) ≡ n = length-take-le n b (omega (arith, i.room, i.size)) in
       record {
         codes = s.codes ++ (w.code ∷ []);
         came = rw (lines_more s.codes w.code) (moved_join s.came w.came);
         paired = paired_more s.codes w.code s.paired w.paired;
-        kept = f s.codes w.code w.kept s.kept;
+        kept = f s.codes w.code (record { size = long ∙ i.size; whole = i.whole }) s.kept;
       }
 
   -- the empty line, another, and a read that failed
-  pub head_came : {n : ℕ} {b : List ℕ} → Moved Came mid after (line_feed ∷ []) → Prepares c ls bs n b → Headed at n b after
+  pub head_came : {n : ℕ} {b : List ℕ} → Moved Came mid after (line_feed ∷ []) → Prepares c n b → Headed at n b after
   unfolding head_form
   head_came m f =
       let p = f s.codes s.kept in
@@ -63,6 +67,10 @@ module _ {at mid after : ℕ} {c : Codes} {ls bs : List ℕ} (s : CodesCame at c
 
   pub head_stopped : SomeCame mid after → SomeCame at after
   head_stopped w = record { bytes = code_lines s.codes ++ w.bytes; came = moved_join s.came w.came }
+
+  pub head_failed : (b : List ℕ) (r : Result (Result ℕ Refusal) NotComplete) → IsErr r → Told × SomeCame mid after → HeadRead at r b after
+  head_failed b (Ok x) i t = absurd (true≢false (sym i))
+  head_failed b (Err e) i t = (t.0, head_stopped t.1)
 
 -- each line counts bytes that came
 pub fewer_to_come : {at n after : ℕ} {b : List ℕ} → CodeCame at n b after → 2 ^ 64 - after < 2 ^ 64 - at

@@ -13,13 +13,15 @@ use Rattle.forms.specs.declared.Line.TheVariants.{Opening, Code, Closed, Done, W
 use Rattle.forms.specs.Line.{opening, closing_bracket, line_feed, pairs, line_after, kept_after, goes_on, Read, read}
 use Rattle.forms.specs.Promise.{OfForm, LinesRead}
 use Rattle.forms.proofs.Lines.{read_on, read_over, lines_read, by_form}
-use Rattle.streams.specs.declared.Start.{Start}
+use Rattle.std.specs.Prelude.{Result, Ok, Err, IsErr}
+use Rattle.streams.specs.declared.NotComplete.{NotComplete}
 use Rattle.streams.specs.Receipts.{Came, Told, Moved, MayFollow}
-use Rattle.streams.specs.Streams.{Brought, LineOn, LineRead, SomeCame}
+use Rattle.streams.specs.Streams.{Brought, LineOn, LineStopped, SomeCame}
 use Rattle.streams.proofs.Moving.{moved_none, moved_join}
 use Rattle.streams.proofs.FirstLine.{one_byte}
+use Rattle.sweep.specs.declared.head.Next.{Next}
 use Rattle.sweep.specs.Head.{code_line, code_lines, head_form, AllPaired, NoHead}
-use Rattle.sweep.specs.Lines.{next_of, InBuffer, CodeCame, OtherCame, NextRead}
+use Rattle.sweep.specs.Lines.{next_of, InBuffer, CodeCame, OtherCame, LineCame, NextRead}
 
 -- A CODE'S LINE before others is of its form
 pub of_line : (w rest : List ℕ) → pairs 0 w ≡ true → OfForm (code_line w ++ rest) w rest
@@ -104,28 +106,20 @@ in_buffer code a {n} room e f =
           rw (all, f, sets-eq code a 0 (omega arith)) (take-append_seam code (drop (0 + length code) a));
     }
 
--- A LINE from its first byte on, read to its end
+-- A LINE from its first byte on: a read failed, or it was read to its end
 module _
-    (c : ℕ) (a : List ℕ) {before at after : ℕ} {line : Line} {kept b : List ℕ} {r : Start} (is : line ≡ line_after (length a) (Opening 0) c)
-    (same : kept ≡ kept_after (Opening 0) c a) (read_to : (r.more ≡ false) × LineRead line kept at r b after) (m : Moved Came before at (c ∷ [])) where
-  pub code_stopped : r.ok ≡ false → Told × SomeCame before after
-  code_stopped e =
-      let t = read_to.1.so_far.told e in
-      (t.0, record { bytes = c ∷ t.1.0.on.bytes; came = moved_join m t.1.0.on.came })
+    (c : ℕ) (a : List ℕ) {before at after : ℕ} {line : Line} {kept b : List ℕ} (is : line ≡ line_after (length a) (Opening 0) c)
+    (same : kept ≡ kept_after (Opening 0) c a) (m : Moved Came before at (c ∷ [])) where
+  pub code_stopped : LineStopped line kept at b after → SomeCame before after
+  code_stopped s = record { bytes = c ∷ s.on.bytes; came = moved_join m s.on.came }
 
-  module _ (ok : r.ok ≡ true) where
-    abbrev on : LineOn line kept at r.line b after
-    on = (read_to.1.so_far.done ok).0
-
-    ended : goes_on r.line ≡ false
-    ended = sym (read_to.1.so_far.done ok).1 ∙ read_to.0
-
-    reads : (rest : List ℕ) → (r.line ≡ Wrong → MayFollow after rest) →
-        read (Opening 0) a (c ∷ (on.bytes ++ rest)) ≡ record { line = r.line; kept_bytes = b; rest = rest }
+  module _ {end : Line} (on : LineOn line kept at end b after) (ended : goes_on end ≡ false) where
+    reads : (rest : List ℕ) → (end ≡ Wrong → MayFollow after rest) →
+        read (Opening 0) a (c ∷ (on.bytes ++ rest)) ≡ record { line = end; kept_bytes = b; rest = rest }
     reads rest f =
-        read_on c (on.bytes ++ rest) a (Opening 0) line kept refl (is, same) ∙ on.reads rest f ∙ read_over r.line b rest ended
+        read_on c (on.bytes ++ rest) a (Opening 0) line kept refl (is, same) ∙ on.reads rest f ∙ read_over end b rest ended
 
-    code_broken : c ≢ line_feed → r.line ≡ Wrong → OtherCame before after
+    code_broken : c ≢ line_feed → end ≡ Wrong → OtherCame before after
     code_broken h e =
         record {
           bytes = c ∷ on.bytes;
@@ -134,11 +128,11 @@ module _
         }
 
     -- its code was kept, as far as there was room
-    read_whole : (n : ℕ) → r.line ≡ Done n → read (Opening 0) a (c ∷ on.bytes) ≡ record { line = Done n; kept_bytes = b; rest = [] }
+    read_whole : (n : ℕ) → end ≡ Done n → read (Opening 0) a (c ∷ on.bytes) ≡ record { line = Done n; kept_bytes = b; rest = [] }
     read_whole n e =
         rw (append-nil, e) at (reads [] (λ w. let z : ◌≡◌ {A = ℕ} 0 1 = cc in absurd (omega arith)))
 
-    code_whole : length a ≡ suc longest_code → (n : ℕ) → r.line ≡ Done n → CodeCame before n b after
+    code_whole : length a ≡ suc longest_code → (n : ℕ) → end ≡ Done n → CodeCame before n b after
     unfolding LinesRead code_line
     code_whole room n e =
         by_form (c ∷ on.bytes) a
@@ -153,12 +147,17 @@ module _
         })
         (λ w. let two = sym (ap (λ (q : Read). q.line) (read_whole n e)) ∙ w in let z : ◌≡◌ {A = ℕ} 0 1 = cc in absurd (omega arith))
 
-    pub code_came : c ≢ line_feed → length a ≡ suc longest_code → NextRead before (next_of r.line) b after
-    code_came h room = by_line r.line refl ended
+    pub code_came : c ≢ line_feed → length a ≡ suc longest_code → LineCame before (next_of end) b after
+    code_came h room = by_line end refl ended
       where
-        by_line : (l : Line) → r.line ≡ l → goes_on l ≡ false → NextRead before (next_of l) b after
+        by_line : (l : Line) → end ≡ l → goes_on l ≡ false → LineCame before (next_of l) b after
         by_line (Opening n) e g = absurd (true≢false g)
         by_line (Code i) e g = absurd (true≢false g)
         by_line (Closed n) e g = absurd (true≢false g)
         by_line (Done n) e g = code_whole room n e
         by_line Wrong e g = code_broken h e
+
+-- or a read failed
+pub next_failed : {at after : ℕ} (b : List ℕ) (r : Result Next NotComplete) → IsErr r → Told × SomeCame at after → NextRead at r b after
+next_failed b (Ok x) i t = absurd (true≢false (sym i))
+next_failed b (Err e) i t = t

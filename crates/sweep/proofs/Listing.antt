@@ -1,234 +1,187 @@
 -- The list, block by block, and the end of the sweep. Assumes nothing.
-use mathlib.Core.Path.{◌≡◌, refl, sym, ◌∙◌}
-use mathlib.Core.Bool.{Bool, true, false, true≢false}
-use mathlib.Core.List.{List, [], ◌++◌, append-nil, append_assoc}
+use mathlib.Core.Path.{◌≡◌, refl, sym, ap, ◌∙◌}
+use mathlib.Core.Bool.{true, false, true≢false}
+use mathlib.Core.List.{List, [], ◌∷◌, ◌++◌, append-nil}
 use mathlib.Core.Logic.{◌≢◌}
-use Prim.Native.Nat.{ℕ, ◌≤◌, zero-le}
+use Prim.Native.Nat.{ℕ, suc, ◌-◌, ◌^◌, ◌≤◌, ◌<◌, min}
 use native.Mathlib.Omega.{arith}
-use lib.ListN.{length, take}
+use lib.ListN.{length, take, length-take}
 use lib.Seq.{length-take-le, take_all}
-use Rattle.words.proofs.Tests.{by_eq}
+use Rattle.std.specs.Prelude.{Result, Ok, Err, IsErr, OnOk}
+use Rattle.streams.specs.declared.NotComplete.{NotComplete}
 use Rattle.streams.specs.Receipts.{Came, Ended, Sent, Told, Moved}
-use Rattle.streams.specs.Streams.{DoneOrTold, Brought, Rises}
-use Rattle.streams.proofs.Moving.{is_done, is_told, moved_none, moved_join}
-use Rattle.sweep.specs.declared.files.Disk.{Disk}
+use Rattle.streams.specs.Streams.{DoneOrTold, Brought}
+use Rattle.streams.proofs.Moving.{moved_none, moved_join}
+use Rattle.sweep.specs.declared.says.Printer.{Printer}
 use Rattle.sweep.specs.declared.list.Sweep.{Sweep}
-use Rattle.sweep.specs.declared.list.Listing.{Listing}
 use Rattle.sweep.specs.Forms.{total_form}
-use Rattle.sweep.specs.Files.{Holds, openings}
+use Rattle.sweep.specs.Files.{longest_path}
 use Rattle.sweep.specs.Saying.{Said, Cut, Says}
 use Rattle.sweep.specs.Swept.{listing, AllNamed, AllRight, files_form, unread_in, bytes_in, hits_in, sweep_form}
-use Rattle.sweep.specs.Swept.{Swept, Ready, Stopped, ListedOn}
+use Rattle.sweep.specs.Swept.{sent_of, IsNew, Swept, Stopped, ListedOn}
 use Rattle.sweep.specs.Program.{Listed, Finished, ListSwept, ListStopped, Sweeps}
 use Rattle.sweep.proofs.Saying.{says_join}
 use Rattle.sweep.proofs.Stopping.{swept_stopped}
+use Rattle.sweep.proofs.Sweeping.{none_listed, listed_join, stopped_listed}
 
-abbrev stands : Sweep → (more ok : Bool) → Listing
-stands s t k = record { sweep = s; more = t; ok = k }
+-- SO FAR: bytes of the list came, and the sweep has come further by these
+pub record ListedTo (buffer : List ℕ) (s : Sweep) (at : ℕ) (t : Sweep) (after : ℕ) : Type 0 where
+  pub bytes : List ℕ
+  pub came : Moved Came at after bytes
+  pub listed : ListedOn buffer bytes s (Ok (tt {0})) t
 
--- NOTHING of the list has come yet
-pub list_started : (buffer : List ℕ) (s : Sweep) (path : List ℕ) (disk : Disk) (at from : ℕ) (a : List ℕ) → Ready s disk a →
-    Listed buffer s path at from a (stands s true true) path disk at from a
-list_started buffer s path disk at from a h =
-    record {
-      ready = λ e. h;
-      bytes = [];
-      came = moved_none Came at;
-      goes = λ e. refl;
-      ends = λ e m. absurd (true≢false m);
-      lists = λ ws list on v. is_done (rw (append-nil list) v);
-    }
+pub list_started : (buffer : List ℕ) (s : Sweep) (at : ℕ) → ListedTo buffer s at s at
+list_started buffer s at = record { bytes = []; came = moved_none Came at; listed = none_listed buffer s }
 
--- A BLOCK is read: the list has ended, some bytes of it came, or the read failed
-module _ (buffer : List ℕ) (s : Sweep) (path : List ℕ) (at from : ℕ) (a : List ℕ) where
-  pub list_ended : {disk : Disk} {full n after : ℕ} {block : List ℕ} → Ready s disk a → Brought full at n after block → n ≡ 0 → 1 ≤ full →
-      Listed buffer s path at from a (stands s false true) path disk after from a × Rises false at after
-  list_ended h r z one = (
-    record {
-      ready = λ e. h;
-      bytes = [];
-      came = rw z at r.came;
-      goes = λ e. refl;
-      ends = λ e m. r.ends (omega arith);
-      lists = λ ws list on v. is_done (rw (append-nil list) v);
-    },
-    λ e. absurd (true≢false (sym e)),
-  )
+-- A BLOCK is read: the read failed, the list has ended, or some bytes of it came
+module _ {buffer : List ℕ} {s : Sweep} {at : ℕ} {q : Sweep} {mid : ℕ} (f : ListedTo buffer s at q mid) where
+  pub list_failed : {after : ℕ} (r : Result (Unit {0}) NotComplete) → IsErr r → Told × (after ≡ mid) → Listed buffer s at r q after
+  list_failed (Ok x) i t = absurd (true≢false (sym i))
+  list_failed (Err x) i t =
+      record {
+        bytes = f.bytes;
+        came = rw t.1 f.came;
+        ends = tt;
+        listed = rw (append-nil f.bytes) at (listed_join f.listed (stopped_listed buffer [] q (Err x) refl t.0));
+      }
 
-  pub list_went : {full n after to : ℕ} {block path-after : List ℕ} {disk-after : Disk} {b : List ℕ} {t : Sweep} → Brought full at n after block → n ≢ 0 →
-      ListedOn buffer (take n block) s path from a t path-after disk-after to b →
-      Listed buffer s path at from a (stands t t.ok t.ok) path-after disk-after after to b × Rises t.ok at after
-  list_went {n = n} {block = block} r z l = (
-    record {
-      ready = l.ready;
-      bytes = take n block;
-      came = r.came;
-      goes = λ e. e;
-      ends = λ e m. absurd (true≢false (sym e ∙ m));
-      lists = l.lists;
-    },
-    λ e.
-        let long : length (take n block) ≡ n = length-take-le n block r.within in
-        (omega (arith, r.came.counted.exact), r.came.counted.fits (omega arith)),
-  )
+  module _ {full n after : ℕ} {block : List ℕ} (b : Brought full mid n after block) where
+    came_more : Moved Came at after (f.bytes ++ take n block)
+    came_more = moved_join f.came b.came
 
-  pub list_failed : (disk : Disk) {after : ℕ} → Told × (after ≡ at) →
-      Listed buffer s path at from a (stands s false false) path disk after from a × Rises false at after
-  list_failed disk t = (
-    record {
-      ready = λ e. absurd (true≢false (sym e));
-      bytes = [];
-      came = rw t.1 (moved_none Came at);
-      goes = λ e. e;
-      ends = λ e m. absurd (true≢false (sym e));
-      lists = λ ws list on v. is_told t.0 (swept_stopped [] v);
-    },
-    λ e. absurd (true≢false (sym e)),
-  )
+    pub list_ended : n ≡ 0 → 1 ≤ full → Listed buffer s at (Ok (tt {0})) q after
+    list_ended z h =
+        record { bytes = f.bytes; came = rw (z, append-nil) at came_more; ends = b.ends (omega arith); listed = f.listed }
 
--- BLOCK AFTER BLOCK
-pub list_turned : {buffer : List ℕ} {s : Sweep} {path : List ℕ} {at from : ℕ} {a : List ℕ}
-    {q : Listing} {path-mid : List ℕ} {disk-mid : Disk} {mid via : ℕ} {b : List ℕ} {r : Listing} {path-after : List ℕ} {disk-after : Disk} {after to : ℕ} {c : List ℕ} →
-    Listed buffer s path at from a q path-mid disk-mid mid via b → q.more ≡ true →
-    Listed buffer q.sweep path-mid mid via b r path-after disk-after after to c →
-    Listed buffer s path at from a r path-after disk-after after to c
-list_turned f m g =
-    record {
-      ready = g.ready;
-      bytes = f.bytes ++ g.bytes;
-      came = moved_join f.came g.came;
-      goes = g.goes;
-      ends = g.ends;
-      lists = λ ws list on v.
-          rw (← append_assoc list f.bytes g.bytes) (g.lists ws (list ++ f.bytes) on ((f.lists ws list on v).done (f.goes m)));
-    }
+    pub list_turned : {t : Sweep} → ListedOn buffer (take n block) q (Ok (tt {0})) t → ListedTo buffer s at t after
+    list_turned g = record { bytes = f.bytes ++ take n block; came = came_more; listed = listed_join f.listed g }
+
+    pub fewer_to_list : n ≢ 0 → 2 ^ 64 - after < 2 ^ 64 - mid
+    fewer_to_list z =
+        let long : length (take n block) ≡ n = length-take-le n block b.within in
+        let fits : after < 2 ^ 64 = b.came.counted.fits (omega arith) in
+        omega (arith, b.came.counted.exact)
+
+    pub list_stopped : {t : Sweep} {e : NotComplete} (r : Result (Unit {0}) NotComplete) → IsErr r → ListedOn buffer (take n block) q (Err e) t →
+        Listed buffer s at r t after
+    list_stopped (Ok x) i g = absurd (true≢false (sym i))
+    list_stopped (Err x) i g =
+        record { bytes = f.bytes ++ take n block; came = came_more; ends = tt; listed = listed_join f.listed (record { lists = g.lists }) }
 
 -- THE END: the list ended within a path, the end could not be said, or it was said and is to be sent
 abbrev total : Sweep → List ℕ
-total s = total_form s.files s.unread s.bytes s.hits
+total s = total_form s.counts.files s.counts.unread s.counts.bytes s.counts.hits
 
-pub finished_within : (s : Sweep) (from : ℕ) (a : List ℕ) → Told → s.name ≢ 0 → Finished s from a false from a
-finished_within s from a t n = record { within = λ _. (refl, t, refl); says = λ z. absurd (n z) }
+pub finished_within : (s : Sweep) (r : Result (Unit {0}) NotComplete) → IsErr r → Told → s.name ≢ [] → Finished s r s
+finished_within s r i t n = record { within = λ _. (i, t, refl); says = λ z. absurd (n z); unsaid = λ z. absurd (n z) }
 
-pub finished_unsaid : {s : Sweep} {from u : ℕ} {a : List ℕ} {ok : Bool} {to : ℕ} {b : List ℕ} → s.name ≡ 0 →
-    Says from s.used a (total s) ok to u b → ok ≡ false → Finished s from a false to b
-finished_unsaid z f e =
-    record {
-      within = λ n. absurd (n z);
-      says = λ _.
-          record {
-            size = f.size;
-            inside = zero-le;
-            says = λ all v. let t = (f.says all v).told e in is_told t.0 t.1;
-          };
-    }
+pub finished_unsaid : {s t : Sweep} {e : NotComplete} (r : Result (Unit {0}) NotComplete) → IsErr r → s.name ≡ [] →
+    Says {A = Unit {0}} s.reader.printer (total s) (Err e) t.reader.printer → Finished s r t
+finished_unsaid (Ok x) i z f = absurd (true≢false (sym i))
+finished_unsaid (Err x) i z f = record { within = λ n. absurd (n z); says = λ _. record { says = f.says }; unsaid = λ _. tt }
 
-pub finished_sent : {s : Sweep} {from u : ℕ} {a : List ℕ} {ok complete : Bool} {mid to : ℕ} {b : List ℕ} → s.name ≡ 0 →
-    Says from s.used a (total s) ok mid u b → ok ≡ true → Says mid u b [] complete to 0 b → Finished s from a complete to b
-finished_sent {s} n f e g =
-    record { within = λ m. absurd (m n); says = λ _. rw (append-nil (total s)) at (says_join (rw e at f) g) }
+pub finished_sent : {s : Sweep} {p : Printer} {u : Unit {0}} {r : Result (Unit {0}) NotComplete} {t : Sweep} → s.name ≡ [] →
+    Says s.reader.printer (total s) (Ok u) p → Says p [] r t.reader.printer × (t.reader.printer.page ≡ []) → Finished s r t
+finished_sent {s} {r = r} z f g =
+    record { within = λ n. absurd (n z); says = λ _. rw (append-nil (total s)) at (says_join f g.0); unsaid = λ _. on_ok r g.1 }
+  where
+    on_ok : {P : Type 0} (v : Result (Unit {0}) NotComplete) → P → OnOk v P
+    on_ok (Ok x) p = p
+    on_ok (Err x) p = tt
 
 -- THE SWEEP OF THE LIST, from where nothing has come and nothing was sent
-abbrev first_sweep : Sweep
-first_sweep = record { name = 0; files = 0; unread = 0; bytes = 0; hits = 0; used = 0; ok = true }
-
-pub first_ready : (disk : Disk) (out : List ℕ) → openings disk ≡ 0 → Holds disk → Ready first_sweep disk out
-first_ready disk out z h = record { fine = refl; inside = zero-le; short = zero-le; opened = z; holds = h; few = zero-le }
-
-first_swept : (ws : List (List ℕ)) (path : List ℕ) (sent : ℕ) (out : List ℕ) → sent ≡ 0 → Swept ws [] first_sweep path sent out
+first_swept : (ws : List (List ℕ)) (s : Sweep) → IsNew s → Swept ws [] s
 unfolding listing AllNamed AllRight files_form unread_in bytes_in hits_in
-first_swept ws path sent out z =
+first_swept ws s n =
     record {
       plans = [];
       name = [];
       listed = refl;
       named = tt;
       clean = tt;
-      kept = record { size = refl; front = refl };
+      kept = n.unnamed;
       right = tt;
-      files_are = refl;
-      unread_are = refl;
-      bytes_are = refl;
-      hits_are = refl;
-      said = record { front = []; moved = rw z (moved_none Sent 0); whole = refl };
+      files_are = n.no_files;
+      unread_are = n.no_unread;
+      bytes_are = n.no_bytes;
+      hits_are = n.no_hits;
+      said = record { front = []; moved = rw n.unsent (moved_none Sent 0); whole = n.ungathered };
     }
 
 -- stopped within the list, and stopped or complete at its end
 module _ {ws : List (List ℕ)} where
-  list_stopped : {at after to : ℕ} {bytes : List ℕ} → Moved Came at after bytes → Stopped ws bytes to → ListStopped ws at after to
-  list_stopped {bytes = bytes} came t =
+  stopped_in_list : {at after to : ℕ} {bytes : List ℕ} → Moved Came at after bytes → Stopped ws bytes to → ListStopped ws at after to
+  stopped_in_list {bytes = bytes} came t =
       record {
         some = record { bytes = bytes; came = came };
         stopped = record { ended = false; within = λ _. t; behind = λ e. absurd (true≢false (sym e)) };
       }
 
-  module _ {bytes : List ℕ} {s : Sweep} {path : List ℕ} {from : ℕ} {a : List ℕ} (v : Swept ws bytes s path from a)
-      {complete : Bool} {to : ℕ} {b : List ℕ} (f : Finished s from a complete to b) where
+  module _ {bytes : List ℕ} {s : Sweep} (v : Swept ws bytes s) where
     total_is : files_form ws 0 v.plans ++ total s ≡ sweep_form ws v.plans
     unfolding sweep_form
     total_is = rw (v.files_are, v.unread_are, v.bytes_are, v.hits_are)
 
     -- the list ended between two paths: all of it is paths, each with its zero
-    module _ (between : s.name ≡ 0) where
-      end_says : DoneOrTold complete (Said to 0 b (sweep_form ws v.plans)) (Cut to (sweep_form ws v.plans))
-      end_says = rw total_is at ((f.says between).says (files_form ws 0 v.plans) v.said)
+    end_listed : s.name ≡ [] → bytes ≡ listing v.plans
+    end_listed z =
+        let size : length s.name ≡ min (suc longest_path) (length v.name) = ap (λ (l : List ℕ). length l) v.kept ∙ length-take (suc longest_path) v.name in
+        let empty : length s.name ≡ 0 = ap (λ (l : List ℕ). length l) z in
+        let none : length v.name ≤ 0 = omega arith in
+        sym v.listed ∙ rw (← take_all 0 v.name none) (append-nil (listing v.plans))
 
-      end_listed : bytes ≡ listing v.plans
-      end_listed =
-          let none : length v.name ≤ 0 = omega (arith, v.kept.size) in
-          sym v.listed ∙ rw (← take_all 0 v.name none) (append-nil (listing v.plans))
+    end_says : {r : Result (Unit {0}) NotComplete} {t : Sweep} → Finished s r t → s.name ≡ [] →
+        DoneOrTold r (λ _. Said t.reader.printer (sweep_form ws v.plans)) (Cut (sent_of t) (sweep_form ws v.plans))
+    end_says f z = rw total_is at ((f.says z).says (files_form ws 0 v.plans) v.said)
 
-    end_swept : {at after : ℕ} → Moved Came at after bytes → Ended after → complete ≡ true → ListSwept ws at after to
-    end_swept came ended e =
-        by_eq s.name 0
-        (λ (z : s.name ≡ 0).
-        let said = (end_says z).done e in
-        record {
-          bytes = bytes;
-          out = sweep_form ws v.plans;
-          came = came;
-          ended = ended;
-          sent = rw (sym (append-nil said.front) ∙ said.whole) at said.moved;
-          all = record { plans = v.plans; listed = end_listed z; named = v.named; right = v.right; is = refl };
-        })
-        (λ (n : s.name ≢ 0). absurd (true≢false (sym e ∙ (f.within n).0)))
-
-    end_unsent : {at after : ℕ} → Moved Came at after bytes → Ended after → s.name ≡ 0 → Cut to (sweep_form ws v.plans) → ListStopped ws at after to
-    end_unsent came ended z cut =
-        record {
-          some = record { bytes = bytes; came = came };
-          stopped =
+    module _ {at after : ℕ} (came : Moved Came at after bytes) (ended : Ended after) {t : Sweep} where
+      end_swept : {u : Unit {0}} → Finished s (Ok u) t → ListSwept ws at after (sent_of t)
+      end_swept f =
+          by_name s.name refl
+        where
+          by_name : (n : List ℕ) → s.name ≡ n → ListSwept ws at after (sent_of t)
+          by_name [] z =
+              let said = end_says f z in
+              let out : said.front ≡ sweep_form ws v.plans =
+              sym (append-nil said.front) ∙ ap (λ (l : List ℕ). said.front ++ l) (sym (f.unsaid z)) ∙ said.whole in
               record {
-                ended = true;
-                within = λ e. absurd (true≢false e);
-                behind = λ _. (ended, record { plans = v.plans; listed = end_listed z; named = v.named; right = v.right; cut = cut });
-              };
-        }
+                bytes = bytes;
+                out = sweep_form ws v.plans;
+                came = came;
+                ended = ended;
+                sent = rw out at said.moved;
+                all = record { plans = v.plans; listed = end_listed z; named = v.named; right = v.right; is = refl };
+              }
+          by_name (x ∷ n) z = absurd (true≢false (sym (f.within (λ e. cc)).0))
 
-    end_stopped : {at after : ℕ} → Moved Came at after bytes → Ended after → complete ≡ false → Told × ListStopped ws at after to
-    end_stopped came ended e =
-        by_eq s.name 0
-        (λ (z : s.name ≡ 0). let t = (end_says z).told e in (t.0, end_unsent came ended z t.1))
-        (λ (n : s.name ≢ 0).
-        let w = f.within n in
-        (w.1, list_stopped came (rw (append-nil bytes, ← w.2) at (swept_stopped [] v))))
+      end_stopped : {e : NotComplete} → Finished s (Err e) t → Told × ListStopped ws at after (sent_of t)
+      end_stopped f =
+          by_name s.name refl
+        where
+          by_name : (n : List ℕ) → s.name ≡ n → Told × ListStopped ws at after (sent_of t)
+          by_name [] z =
+              let w = end_says f z in (
+                w.0,
+                record {
+                  some = record { bytes = bytes; came = came };
+                  stopped =
+                      record {
+                        ended = true;
+                        within = λ e. absurd (true≢false e);
+                        behind = λ _. (ended, record { plans = v.plans; listed = end_listed z; named = v.named; right = v.right; cut = w.1 });
+                      };
+                },
+              )
+          by_name (x ∷ n) z =
+              let w = f.within (λ e. cc) in
+              (w.1, stopped_in_list came (rw (append-nil bytes, ← w.2) at (swept_stopped [] v)))
 
-module _ {buffer path : List ℕ} {disk : Disk} {at from : ℕ} {a : List ℕ} {l : Listing} {path-after : List ℕ} {disk-after : Disk} {after via : ℕ} {b : List ℕ}
-    (g : Listed buffer first_sweep path at from a l path-after disk-after after via b) where
-  pub sweeps_stopped : l.ok ≡ false → Sweeps buffer disk at from false after via
-  sweeps_stopped e =
-      record {
-        sweeps = λ ws on _ z. let t = (g.lists ws [] on (first_swept ws path from a z)).told e in is_told t.0 (list_stopped g.came t.1);
-      }
+module _ {buffer : List ℕ} {s : Sweep} {at : ℕ} {q : Sweep} {after : ℕ} where
+  pub sweeps_stopped : {e : NotComplete} (r : Result (Unit {0}) NotComplete) → IsErr r → Listed buffer s at (Err e) q after → Sweeps buffer s at r q after
+  sweeps_stopped (Ok x) i g = absurd (true≢false (sym i))
+  sweeps_stopped (Err x) i g =
+      record { sweeps = λ ws on n. let t = g.listed.lists ws [] on (first_swept ws s n) in (t.0, stopped_in_list g.came t.1) }
 
-  pub sweeps_finished : {complete : Bool} {to : ℕ} {c : List ℕ} → l.ok ≡ true → l.more ≡ false → Finished l.sweep via b complete to c →
-      Sweeps buffer disk at from complete after to
-  sweeps_finished e m f =
-      record {
-        sweeps = λ ws on _ z.
-            let v = (g.lists ws [] on (first_swept ws path from a z)).done e in
-            record {
-              done = end_swept v f g.came (g.ends e m);
-              told = end_stopped v f g.came (g.ends e m);
-            };
-      }
+  pub sweeps_finished : {u : Unit {0}} {t : Sweep} (r : Result (Unit {0}) NotComplete) → Listed buffer s at (Ok u) q after → Finished q r t → Sweeps buffer s at r t after
+  sweeps_finished (Ok x) g f = record { sweeps = λ ws on n. end_swept (g.listed.lists ws [] on (first_swept ws s n)) g.came g.ends f }
+  sweeps_finished (Err x) g f = record { sweeps = λ ws on n. end_stopped (g.listed.lists ws [] on (first_swept ws s n)) g.came g.ends f }

@@ -1,29 +1,32 @@
 -- Calls of feeding, one after another, and a part of a piece. Assumes nothing.
 use mathlib.Core.Path.{◌≡◌, refl, sym, ap, ◌∙◌}
-use mathlib.Core.Bool.{Bool, true, false, true≢false}
+use mathlib.Core.Bool.{true≢false}
 use mathlib.Core.List.{List, [], ◌∷◌, ◌++◌}
 use mathlib.Core.Logic.{◌≢◌}
 use Prim.Native.Nat.{ℕ, ◌*◌, ◌≤◌, zero-le}
 use native.Mathlib.Omega.{arith}
 use lib.ListN.{length, take}
 use lib.Seq.{length-take-le}
+use Rattle.std.specs.Prelude.{Option, Some, None, Result, Ok, Err, IsErr}
+use Rattle.runs.specs.Reading.{Ended, PieceDone, ListFull, Refused, ending_refusal, ending_full}
 use Rattle.runs.specs.declared.Ending.{Ending}
-use Rattle.runs.specs.declared.Ending.TheVariants.{PieceDone, ListFull, Refused}
-use Rattle.runs.specs.Reading.{ending_refusal, ending_full}
+use Rattle.runs.specs.declared.Ending.TheVariants as variants
+use Rattle.runs.specs.Answers.{Answer, ended}
 use Rattle.runs.specs.Calls.{Outcome, run}
 use Rattle.runs.proofs.Runs.{run_one, run_append}
 use Rattle.starts.specs.Hits.{Hit}
 use Rattle.boards.specs.declared.Watch.{Watch}
-use Rattle.boards.specs.declared.Feeding.{Feeding}
 use Rattle.boards.specs.Board.{most_codes}
 use Rattle.boards.specs.Entry.{Lent, room, paired, FeedCall, feed_refusal, feed_call, told_hits, feeding, FeedSays}
 use Rattle.boards.specs.Runs.{EndingsTold, FeedingGoesOn, HitsReadBack, RefusedUnchanged}
 use Rattle.boards.proofs.Endings.{endings_told, feeding_goes_on}
 use Rattle.boards.proofs.Calls.{hits_read_back, refused_unchanged}
+use Rattle.streams.specs.declared.NotComplete.{NotComplete}
+use Rattle.sweep.specs.declared.says.Printer.{Printer}
 use Rattle.sweep.specs.Forms.{hit_forms}
 use Rattle.sweep.specs.Saying.{Says}
 use Rattle.sweep.specs.Looking.{Goes, PartTaken}
-use Rattle.sweep.proofs.Saying.{says_none}
+use Rattle.sweep.proofs.Saying.{says_none, says_ok}
 
 -- NO CALL, and CALLS AFTER OTHERS
 pub goes_none : (buffer : List ℕ) (x : Watch) → Goes buffer x [] [] x
@@ -36,13 +39,18 @@ goes_join {buffer} {x} {y} {z} {bs} {cs} {hs} {is} f g =
     record { calls = f.calls ++ g.calls; is = run_append (feeding buffer) f.calls g.calls x ∙ rw (f.is, g.is) refl }
 
 -- an ending says that the list is full or not
-by_full : {G : Type 0} (e : Ending) → (ending_full e ≡ 1 → G) → (ending_full e ≡ 0 → G) → G
+by_full : {G : Type 0} (e : Ended) → (ending_full e ≡ 1 → G) → (ending_full e ≡ 0 → G) → G
 by_full PieceDone f g = g refl
 by_full ListFull f g = f refl
 by_full (Refused n) f g = g refl
 
+-- nor does one of a call that was not refused say so
+pub ended_none : (e : Ending) → ending_refusal (ended e) ≡ 0
+ended_none variants.PieceDone = refl
+ended_none variants.ListFull = refl
+
 -- ONE CALL
-module _ {buffer : List ℕ} {x : Watch} {l : Lent} {r : Feeding} {a : Lent} (f : FeedSays buffer x l r a) where
+module _ {buffer : List ℕ} {x : Watch} {l : Lent} {r : Answer Watch} {a : Lent} (f : FeedSays buffer x l r a) where
   abbrev told_by : List Hit
   told_by = paired (take r.written a.places) (take r.written a.numbers)
 
@@ -54,7 +62,7 @@ module _ {buffer : List ℕ} {x : Watch} {l : Lent} {r : Feeding} {a : Lent} (f 
 
   pub call_refused_by : ending_refusal r.ending ≡ feed_refusal buffer x l
   unfolding EndingsTold
-  call_refused_by = ap (λ (q : Feeding). ending_refusal q.ending) answer_is ∙ (endings_told buffer x l).1
+  call_refused_by = ap (λ (q : Answer Watch). ending_refusal q.ending) answer_is ∙ (endings_told buffer x l).1
 
   goes_call : Goes buffer x (take r.taken l.piece) told_by r.watch
   goes_call =
@@ -69,20 +77,19 @@ module _ {buffer : List ℕ} {x : Watch} {l : Lent} {r : Feeding} {a : Lent} (f 
       }
 
   -- REFUSED: nothing is taken or told, and the watch is as it was
-  pub part_refused : (from u file : ℕ) (b : List ℕ) → u ≤ length b → most_codes ≤ room l → ending_refusal r.ending ≢ 0 →
-      PartTaken buffer file x l.piece from u b (record { watch = r.watch; taken = 0; used = u; more = false; ok = true }) from b
+  pub part_refused : (file : ℕ) (p : Printer) → most_codes ≤ room l → ending_refusal r.ending ≢ 0 → PartTaken buffer file x l.piece p (Ok None) r.watch p
   unfolding RefusedUnchanged hit_forms
-  part_refused from u file b h spots n =
+  part_refused file p spots n =
       let m : feed_refusal buffer x l ≢ 0 = rw call_refused_by at n in
-      let same : r.watch ≡ x = ap (λ (q : Feeding). q.watch) (answer_is ∙ (refused_unchanged buffer x l m).0) in
+      let same : r.watch ≡ x = ap (λ (q : Answer Watch). q.watch) (answer_is ∙ (refused_unchanged buffer x l m).0) in
       record {
+        taken = 0;
         told = [];
         within = zero-le;
         goes = rw same (goes_none buffer x);
-        says = says_none from u b h;
-        goes_on = λ _. refl;
-        some = λ e. absurd (true≢false (sym e));
-        refused = λ _ _. record { call = l; piece = refl; spots = spots; refused = rw same m };
+        says = says_none p;
+        some = λ k e. absurd (cc);
+        refused = λ _. record { call = l; piece = refl; spots = spots; refused = rw same m };
       }
 
   -- NOT REFUSED: so many hits as the lists have spots at most
@@ -122,16 +129,31 @@ module _ {buffer : List ℕ} {x : Watch} {l : Lent} {r : Feeding} {a : Lent} (f 
         rw answer_is
         (by_full e.ending (λ f. omega (arith, (t.2 f).1)) (λ f. omega (arith, t.3 (t.1 ∙ not_refused) f)))
 
-    pub part_fed : {from u to v file : ℕ} {b c : List ℕ} {ok : Bool} → Says from u b (hit_forms file told_by) ok to v c →
-        PartTaken buffer file x l.piece from u b (record { watch = r.watch; taken = r.taken; used = v; more = ok; ok = ok }) to c
+    -- its hits are said, or a write failed
+    pub part_fed : {p q : Printer} {file : ℕ} {u : Unit {0}} → Says p (hit_forms file told_by) (Ok u) q →
+        PartTaken buffer file x l.piece p (Ok (Some r.taken)) r.watch q
     unfolding FeedingGoesOn
     part_fed s =
         record {
+          taken = r.taken;
           told = told_by;
           within = taken_within;
           goes = goes_call;
-          says = s;
-          goes_on = λ e. e;
-          some = λ _ n. rw answer_is ((feeding_goes_on buffer x l not_refused).0 n);
-          refused = λ e f. absurd (true≢false (sym e ∙ f));
+          says = says_ok s;
+          some = λ k e. (cc, λ n. rw answer_is ((feeding_goes_on buffer x l not_refused).0 n));
+          refused = λ e. absurd (cc);
+        }
+
+    pub part_stopped : {p q : Printer} {file : ℕ} {e : NotComplete} (s : Result (Option ℕ) NotComplete) → IsErr s →
+        Says {A = Unit {0}} p (hit_forms file told_by) (Err e) q → PartTaken buffer file x l.piece p s r.watch q
+    part_stopped (Ok k) i f = absurd (true≢false (sym i))
+    part_stopped (Err d) i f =
+        record {
+          taken = r.taken;
+          told = told_by;
+          within = taken_within;
+          goes = goes_call;
+          says = record { says = f.says };
+          some = λ k e. absurd (cc);
+          refused = λ e. absurd (cc);
         }

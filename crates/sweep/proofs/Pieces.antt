@@ -1,94 +1,111 @@
 -- A piece, part by part. Assumes nothing.
-use mathlib.Core.Path.{◌≡◌, refl, sym, ap, subst, ◌∙◌}
+use mathlib.Core.Path.{◌≡◌, refl, sym, ap, ◌∙◌}
 use mathlib.Core.Bool.{Bool, true, false, true≢false}
-use mathlib.Core.List.{List, [], ◌++◌, append-nil}
-use Prim.Native.Nat.{ℕ, ◌+◌, ◌-◌, ◌≤◌, ◌<◌, zero-le}
+use mathlib.Core.List.{List, [], ◌∷◌, ◌++◌, append_assoc}
+use mathlib.Core.Logic.{◌≢◌}
+use Prim.Native.Nat.{ℕ, ◌-◌, ◌≤◌, ◌<◌}
 use native.Mathlib.Omega.{arith}
 use lib.ListN.{length, take, drop, length-drop, take-append-drop}
-use lib.Seq.{take_all, take-add, drop-drop, length-take-le}
-use Rattle.words.proofs.Lists.{take_drop}
+use lib.Seq.{take_all}
+use Rattle.std.specs.Prelude.{Option, Some, None, Result, Ok, Err, IsErr, is_err}
 use Rattle.starts.specs.Hits.{Hit}
 use Rattle.boards.specs.declared.Watch.{Watch}
-use Rattle.sweep.specs.declared.look.Part.{Part}
+use Rattle.streams.specs.declared.NotComplete.{NotComplete}
+use Rattle.sweep.specs.declared.says.Printer.{Printer}
 use Rattle.sweep.specs.Forms.{hit_forms}
 use Rattle.sweep.specs.Saying.{Says}
 use Rattle.sweep.specs.Looking.{Goes, PartTaken, PieceTaken}
-use Rattle.sweep.proofs.Saying.{says_none, says_join}
+use Rattle.sweep.proofs.Saying.{says_none, says_ok, says_err, says_join}
 use Rattle.sweep.proofs.Wording.{hits_append}
 use Rattle.sweep.proofs.Parts.{goes_none, goes_join}
 
--- SO FAR: the first bytes of the piece were taken, and their hits said
-pub record TakenTo
-    (buffer : List ℕ) (file : ℕ) (x : Watch) (piece : List ℕ) (from u : ℕ) (a : List ℕ) (at : ℕ) (y : Watch) (ok : Bool) (to v : ℕ) (b : List ℕ) : Type 0
-  where
-    pub told : List Hit
-    pub within : at ≤ length piece
-    pub goes : Goes buffer x (take at piece) told y
-    pub says : Says from u a (hit_forms file told) ok to v b
+-- SO FAR: the first bytes of the piece were taken, and their hits said; the rest is left
+pub record TakenTo (buffer : List ℕ) (file : ℕ) (x : Watch) (piece : List ℕ) (p : Printer) (rest : List ℕ) (y : Watch) (q : Printer) : Type 0 where
+  pub bytes : List ℕ
+  pub told : List Hit
+  pub whole : bytes ++ rest ≡ piece
+  pub goes : Goes buffer x bytes told y
+  pub says : Says p (hit_forms file told) (Ok (tt {0})) q
 
-pub taken_none : (buffer : List ℕ) (file : ℕ) (x : Watch) (piece : List ℕ) (from u : ℕ) (a : List ℕ) → u ≤ length a →
-    TakenTo buffer file x piece from u a 0 x true from u a
+pub taken_none : (buffer : List ℕ) (file : ℕ) (x : Watch) (piece : List ℕ) (p : Printer) → TakenTo buffer file x piece p piece x p
 unfolding hit_forms
-taken_none buffer file x piece from u a h = record { told = []; within = zero-le; goes = goes_none buffer x; says = says_none from u a h }
+taken_none buffer file x piece p = record { bytes = []; told = []; whole = refl; goes = goes_none buffer x; says = says_none p }
 
--- the bytes from a place to another
-pub part_of : (i n : ℕ) (xs : List ℕ) → i ≤ n → n ≤ length xs → take (n - i) (drop i xs) ≡ drop i (take n xs)
-part_of i n xs h l = let e : i + (n - i) ≡ n = omega arith in take_drop i (n - i) xs (omega arith) ∙ ap (λ (k : ℕ). drop i (take k xs)) e
+-- what is behind a place, as the code cuts it; and a list that is not empty
+pub rest_is : (i : ℕ) (xs : List ℕ) → take (length xs - i) (drop i xs) ≡ drop i xs
+rest_is i xs = take_all (length xs - i) (drop i xs) (omega (arith, length-drop i xs))
 
-pub part_some : (i n : ℕ) (xs : List ℕ) → i < n → n ≤ length xs → 1 ≤ length (take (n - i) (drop i xs))
-part_some i n xs h l = omega (arith, length-take-le (n - i) (drop i xs) (omega (arith, length-drop i xs)))
+pub no_bytes : (xs : List ℕ) → length xs ≡ 0 → xs ≡ []
+no_bytes [] e = refl
+no_bytes (x ∷ xs) e = absurd (omega arith)
 
-pub at_most : (k n : ℕ) (xs : List ℕ) → n ≤ length xs → k ≤ length (take n xs) → k ≤ n
-at_most k n xs l h = omega (arith, length-take-le n xs l)
+some_in : (xs : List ℕ) → xs ≢ [] → 1 ≤ length xs
+some_in [] h = absurd (h refl)
+some_in (x ∷ xs) h = omega arith
 
 -- one part more
-module _
-    {buffer : List ℕ} {file : ℕ} {x y : Watch} {piece part : List ℕ} {from u via v to : ℕ} {a b c : List ℕ} {at : ℕ} {r : Part}
-    (f : TakenTo buffer file x piece from u a at y true via v b) (is : part ≡ drop at piece) (g : PartTaken buffer file y part via v b r to c) where
-  pub taken_more : TakenTo buffer file x piece from u a (at + r.taken) r.watch r.ok to r.used c
-  taken_more =
-      let fits : r.taken ≤ length (drop at piece) = rw is at g.within in
-      record {
-        told = f.told ++ g.told;
-        within = omega (arith, length-drop at piece, f.within);
-        goes = rw (take-add at r.taken piece) (goes_join f.goes (rw is at g.goes));
-        says = rw (hits_append file f.told g.told) (says_join f.says g.says);
-      }
+module _ {buffer : List ℕ} {file : ℕ} {x y z : Watch} {piece rest : List ℕ} {p q s : Printer} (f : TakenTo buffer file x piece p rest y q) where
+  module _ {r : Result (Option ℕ) NotComplete} (g : PartTaken buffer file y rest q r z s) where
+    abbrev bytes : List ℕ
+    bytes = f.bytes ++ take g.taken rest
 
-  -- no more may be taken: it is refused, or a write failed
-  pub piece_left : r.more ≡ false →
-      PieceTaken buffer file x piece from u a (record { watch = r.watch; used = r.used; more = false; whole = false; ok = r.ok }) to c
-  piece_left e =
-      record {
-        bytes = take (at + r.taken) piece;
-        left = drop (at + r.taken) piece;
-        told = taken_more.told;
-        whole = take-append-drop (at + r.taken) piece;
-        goes = taken_more.goes;
-        says = taken_more.says;
-        more = λ h. absurd (true≢false (sym h));
-        refused = λ ok _. rw (is, drop-drop r.taken at piece) at (g.refused ok e);
-        unended = refl;
-      }
+    abbrev told : List Hit
+    told = f.told ++ g.told
 
-  -- more may be: it goes on, by at least a byte
-  pub taken_on : r.more ≡ true → TakenTo buffer file x piece from u a (at + r.taken) r.watch true to r.used c
-  taken_on e = subst (λ (t : Bool). TakenTo buffer file x piece from u a (at + r.taken) r.watch t to r.used c) (g.goes_on e) taken_more
+    whole : bytes ++ drop g.taken rest ≡ piece
+    whole = rw (append_assoc, take-append-drop g.taken rest) f.whole
+
+    says_more : Says p (hit_forms file told) r s
+    says_more = rw (hits_append file f.told g.told) (says_join f.says g.says)
+
+    -- no more may be taken: what is left
+    behind : (t : Result Bool NotComplete) → Says p (hit_forms file told) t s → (t ≡ Ok true → ⊥) → (t ≡ Ok false → r ≡ Ok None) →
+        PieceTaken buffer file x piece p t z s
+    behind t v n e =
+        record {
+          bytes = bytes;
+          left = drop g.taken rest;
+          told = told;
+          whole = whole;
+          goes = goes_join f.goes g.goes;
+          says = v;
+          all = λ h. absurd (n h);
+          refused = λ h. g.refused (e h);
+        }
+
+  module _ {k : ℕ} (g : PartTaken buffer file y rest q (Ok (Some k)) z s) where
+    pub taken_on : {left : List ℕ} → left ≡ drop k rest → TakenTo buffer file x piece p left z s
+    taken_on e =
+        rw (e, (g.some _ refl).0) (record { bytes = bytes g; told = told g; whole = whole g; goes = goes_join f.goes g.goes; says = says_ok (says_more g) })
+
+    pub fewer_left : {left : List ℕ} → left ≡ drop k rest → rest ≢ [] → length left < length rest
+    fewer_left e h =
+        let t = g.some k refl in
+        let some : 1 ≤ g.taken = t.1 (some_in rest h) in
+        rw e (omega (arith, t.0, g.within, length-drop k rest))
+
+  -- a part was refused, or a write failed
+  pub piece_refused : PartTaken buffer file y rest q (Ok None) z s → PieceTaken buffer file x piece p (Ok false) z s
+  piece_refused g = behind g (Ok false) (says_ok (says_more g)) (λ h. cc) (λ _. refl)
+
+  pub piece_stopped : {e : NotComplete} (t : Result Bool NotComplete) → IsErr t → PartTaken buffer file y rest q (Err e) z s →
+      PieceTaken buffer file x piece p t z s
+  piece_stopped t i g = behind g t (says_err t i (says_more g)) (λ h. not_ok h) (λ h. absurd (not_ok h))
+    where
+      not_ok : {b : Bool} → t ≡ Ok b → ⊥
+      not_ok h = true≢false (sym i ∙ ap (λ (v : Result Bool NotComplete). is_err v) h)
 
 -- all of it was taken
-pub piece_done : (n : ℕ) (xs : List ℕ) {buffer : List ℕ} {file : ℕ} {x y : Watch} {from u to v : ℕ} {a b : List ℕ} {at : ℕ} →
-    TakenTo buffer file x (take n xs) from u a at y true to v b → n ≤ at → n ≤ length xs →
-    PieceTaken buffer file x (take n xs) from u a (record { watch = y; used = v; more = true; whole = false; ok = true }) to b
-piece_done n xs {at = at} f h l =
-    let size : length (take n xs) ≡ n = length-take-le n xs l in
+pub piece_done : {buffer : List ℕ} {file : ℕ} {x y : Watch} {piece rest : List ℕ} {p q : Printer} → TakenTo buffer file x piece p rest y q → length rest ≡ 0 →
+    PieceTaken buffer file x piece p (Ok true) y q
+piece_done {piece = piece} {rest} f e =
     record {
-      bytes = take n xs;
+      bytes = f.bytes;
       left = [];
       told = f.told;
-      whole = append-nil (take n xs);
-      goes = rw (take_all at (take n xs) (omega arith)) at f.goes;
-      says = f.says;
-      more = λ _. (refl, refl);
-      refused = λ _ e. absurd (true≢false e);
-      unended = refl;
+      whole = rw (no_bytes rest e) at f.whole;
+      goes = f.goes;
+      says = says_ok f.says;
+      all = λ _. refl;
+      refused = λ e. absurd (cc);
     }

@@ -1,16 +1,17 @@
 -- What is said, one call after another, and bytes gathered behind others. Assumes nothing.
-use mathlib.Core.Path.{refl, sym, ap, ◌∙◌}
-use mathlib.Core.Bool.{Bool, true}
+use mathlib.Core.Path.{◌≡◌, refl, sym, ap, ◌∙◌}
+use mathlib.Core.Bool.{true≢false}
 use mathlib.Core.List.{List, [], ◌++◌, append-nil, append_assoc}
-use Prim.Native.Nat.{ℕ, ◌-◌, ◌≤◌, zero-le}
+use Prim.Native.Nat.{ℕ, ◌≤◌}
 use native.Mathlib.Omega.{arith}
-use lib.ListN.{length, take}
-use Rattle.forms.specs.Text.{Written}
-use Rattle.forms.proofs.Writing.{written_behind}
+use Rattle.std.specs.Prelude.{Result, Ok, Err, IsErr}
+use Rattle.forms.specs.Text.{PutWithin}
+use Rattle.forms.proofs.Paging.{put_all}
+use Rattle.streams.specs.declared.NotComplete.{NotComplete}
 use Rattle.streams.specs.Receipts.{unmoved}
-use Rattle.streams.specs.Streams.{SentOrTold, PrefixOf}
-use Rattle.streams.proofs.Moving.{is_done, moved_join}
-use Rattle.sweep.specs.declared.says.Room.{Room}
+use Rattle.streams.specs.Streams.{SentOrTold}
+use Rattle.streams.proofs.Moving.{moved_join}
+use Rattle.sweep.specs.declared.says.Printer.{Printer}
 use Rattle.sweep.specs.Saying.{Said, Cut, Says, Made}
 
 -- CUT SHORT, whatever would have followed; and nothing more is said
@@ -24,65 +25,65 @@ cut_more n all more c =
       starts = record { rest = c.starts.rest ++ more; is = rw c.starts.is (append_assoc c.front c.starts.rest more) };
     }
 
-pub said_cut : (n u : ℕ) (a all : List ℕ) → Said n u a all → Cut n all
-said_cut n u a all s =
-    record { via = n; front = s.front; moved = s.moved; broken = unmoved n n refl; starts = record { rest = take u a; is = sym s.whole } }
+pub said_cut : (p : Printer) (all : List ℕ) → Said p all → Cut p.output all
+said_cut p all s =
+    record { via = p.output; front = s.front; moved = s.moved; broken = unmoved _ _ refl; starts = record { rest = p.page; is = sym s.whole } }
 
 -- ONE CALL AFTER ANOTHER
-pub says_none : (n u : ℕ) (a : List ℕ) → u ≤ length a → Says n u a [] true n u a
-says_none n u a h = record { size = refl; inside = h; says = λ all s. is_done (rw append-nil s) }
+pub says_none : {A : Type 0} {x : A} (p : Printer) → Says p [] (Ok x) p
+says_none p = record { says = λ all s. rw append-nil s }
 
-pub says_join : {n u m v k w : ℕ} {a b c xs ys : List ℕ} {t : Bool} → Says n u a xs true m v b → Says m v b ys t k w c → Says n u a (xs ++ ys) t k w c
-says_join {k = k} {w} {c = c} {xs} {ys} {t} f g =
-    record {
-      size = g.size ∙ f.size;
-      inside = g.inside;
-      says = λ all s. rw (← append_assoc all xs ys) (g.says (all ++ xs) ((f.says all s).done refl));
-    }
+pub says_join : {A B : Type 0} {x : A} {p q s : Printer} {r : Result B NotComplete} {xs ys : List ℕ} →
+    Says p xs (Ok x) q → Says q ys r s → Says p (xs ++ ys) r s
+says_join {xs = xs} {ys} f g = record { says = λ all s. rw (← append_assoc all xs ys) (g.says (all ++ xs) (f.says all s)) }
+
+-- what was said does not rest on what else is answered
+pub says_ok : {A B : Type 0} {x : A} {y : B} {p q : Printer} {bytes : List ℕ} → Says p bytes (Ok x) q → Says p bytes (Ok y) q
+says_ok f = record { says = f.says }
+
+pub says_err : {A B : Type 0} {e : NotComplete} {p q : Printer} {bytes : List ℕ} (r : Result B NotComplete) → IsErr r →
+    Says {A = A} p bytes (Err e) q → Says p bytes r q
+says_err (Ok x) i f = absurd (true≢false (sym i))
+says_err (Err d) i f = record { says = f.says }
 
 -- WHAT IS GATHERED is sent
-pub gathered_sent : (n u : ℕ) (a : List ℕ) (ok : Bool) (m : ℕ) → SentOrTold n (take u a) ok m → Says n u a [] ok m 0 a
-gathered_sent n u a ok m p =
+pub gathered_sent : (r : Result (Unit {0}) NotComplete) (p : Printer) {m : ℕ} → SentOrTold p.output p.page r m → Says p [] r (record { output = m; page = [] })
+gathered_sent (Ok u) p f =
     record {
-      size = refl;
-      inside = zero-le;
+      says = λ all s. record { front = s.front ++ p.page; moved = moved_join s.moved f; whole = ap (λ (l : List ℕ). l ++ []) s.whole };
+    }
+gathered_sent (Err e) p f =
+    record {
+      says = λ all s. (
+        f.0,
+        record {
+          via = p.output;
+          front = s.front;
+          moved = s.moved;
+          broken = f.1;
+          starts = record { rest = p.page; is = append-nil all ∙ sym s.whole };
+        },
+      );
+    }
+
+-- ROOM is made
+pub room_made : {p q : Printer} {most : ℕ} {r : Result (Unit {0}) NotComplete} → most ≤ 200704 → Says p [] r q × (q.page ≡ []) → Made p most r q
+room_made h f = record { fits = rw f.1 (omega arith); says = λ all s. rw append-nil at (f.0.says all s) }
+
+-- and bytes written there are said; or it could not be made
+pub room_used : {p q : Printer} {most : ℕ} {x y : Unit {0}} {bytes page : List ℕ} → Made p most (Ok x) q → PutWithin most bytes 200704 q.page page →
+    Says p bytes (Ok y) (record { output = q.output; page = page })
+room_used {q = q} {bytes = bytes} f w =
+    record {
       says = λ all s.
+          let v = f.says all s in
           record {
-            done = λ e. record { front = s.front ++ take u a; moved = moved_join s.moved (p.done e); whole = ap (λ (l : List ℕ). l ++ []) s.whole };
-            told = λ e.
-                let begins : PrefixOf s.front (all ++ []) = record { rest = take u a; is = append-nil all ∙ sym s.whole } in
-                ((p.told e).0, record { via = n; front = s.front; moved = s.moved; broken = (p.told e).1; starts = begins });
+            front = v.front;
+            moved = v.moved;
+            whole = rw (put_all w.0 (omega (arith, f.fits, w.1)), ← append_assoc v.front q.page bytes, v.whole);
           };
     }
 
--- ROOM is there, or made
-pub room_left : (n u : ℕ) (a : List ℕ) (most : ℕ) → u ≤ length a → most ≤ length a - u → Made n u a most (record { used = u; ok = true }) n
-room_left n u a most h l = record { fits = omega arith; says = λ all s. is_done s }
-
-pub room_made : (n u : ℕ) (a : List ℕ) (most : ℕ) (ok : Bool) (m : ℕ) → most ≤ length a → Says n u a [] ok m 0 a →
-    Made n u a most (record { used = 0; ok = ok }) m
-room_made n u a most ok m h f = record { fits = omega arith; says = λ all s. rw append-nil at (f.says all s) }
-
--- and bytes written there are said
-pub room_used : {n u most m end : ℕ} {a b bytes : List ℕ} {r : Room} → Made n u a most r m → Written bytes r.used a end b → length bytes ≤ most →
-    Says n u a bytes r.ok m end b
-room_used {m = m} {end} {a} {b} {bytes} {r} f w h =
-    let q = written_behind w (omega (arith, f.fits)) in
-    record {
-      size = q.2;
-      inside = q.1;
-      says = λ all s.
-          record {
-            done = λ e.
-                let p = (f.says all s).done e in
-                record {
-                  front = p.front;
-                  moved = p.moved;
-                  whole =
-                      ap (λ (l : List ℕ). p.front ++ l) q.0
-                      ∙ sym (append_assoc p.front (take r.used a) bytes)
-                      ∙ ap (λ (l : List ℕ). l ++ bytes) p.whole;
-                };
-            told = λ e. let t = (f.says all s).told e in (t.0, cut_more m all bytes t.1);
-          };
-    }
+pub room_not : {p q : Printer} {most : ℕ} {e : NotComplete} {bytes : List ℕ} (r : Result (Unit {0}) NotComplete) → IsErr r → Made p most (Err e) q → Says p bytes r q
+room_not (Ok x) i f = absurd (true≢false (sym i))
+room_not {q = q} {bytes = bytes} (Err d) i f = record { says = λ all s. let t = f.says all s in (t.0, cut_more q.output all bytes t.1) }

@@ -9,7 +9,7 @@ use Rattle.streams.proofs.Moving.{moved_none}
 use Rattle.sweep.specs.declared.list.Sweep.{Sweep}
 use Rattle.sweep.specs.Files.{Held}
 use Rattle.sweep.specs.Saying.{Cut}
-use Rattle.sweep.specs.Swept.{Plan, listing, AllNamed, AllRight, files_form, stopped_form, Swept, Stopped}
+use Rattle.sweep.specs.Swept.{Plan, listing, AllNamed, AllRight, files_form, stopped_form, sent_of, Swept, Stopped}
 use Rattle.sweep.proofs.Saying.{cut_more, said_cut}
 use Rattle.sweep.proofs.Passing.{begins_more}
 
@@ -50,8 +50,7 @@ stopped_more more t =
     }
 
 -- where nothing more is said
-pub swept_stopped : {ws : List (List ℕ)} {list : List ℕ} {s : Sweep} {path : List ℕ} {sent : ℕ} {out : List ℕ} →
-    (more : List ℕ) → Swept ws list s path sent out → Stopped ws (list ++ more) sent
+pub swept_stopped : {ws : List (List ℕ)} {list : List ℕ} {s : Sweep} (more : List ℕ) → Swept ws list s → Stopped ws (list ++ more) (sent_of s)
 swept_stopped more v =
     stopped_between v.plans (begins_more more (record { rest = v.name; is = sym v.listed })) v.named v.right
-    (cut_between _ v.plans (said_cut _ _ _ _ v.said))
+    (cut_between _ v.plans (said_cut _ _ v.said))

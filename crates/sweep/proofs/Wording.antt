@@ -1,17 +1,21 @@
 -- The forms of hits, unread files and the end: how long they are, and hits one by one. Assumes nothing.
 use mathlib.Core.Path.{◌≡◌, refl, sym, ap, ◌∙◌}
 use mathlib.Core.List.{List, [], ◌∷◌, ◌++◌, append-nil, append_assoc}
-use Prim.Native.Nat.{ℕ, zero, suc, ◌+◌, ◌*◌, ◌^◌, ◌≤◌, ◌<◌}
+use mathlib.Core.Logic.{◌⊎◌, inl, inr}
+use Prim.Native.Nat.{ℕ, suc, ◌+◌, ◌*◌, ◌^◌, ◌≤◌, ◌<◌}
 use native.Mathlib.Omega.{arith}
-use native.Mathlib.Numerals.{add-one}
 use lib.Dec.{lit≤}
-use lib.ListN.{length, get_or, take, length-append}
+use lib.ListN.{length, length-append}
+use Rattle.std.specs.declared.iter.Zip.{Zip}
+use Rattle.std.specs.declared.slice.Iter.{Iter}
+use Rattle.std.specs.Iterator.Adapters.{zip_first, zip_second}
+use Rattle.std.specs.Slice.Iter.{iter_rest}
 use Rattle.starts.specs.Hits.{Hit, hit}
 use Rattle.boards.specs.Entry.{paired}
 use Rattle.forms.specs.Ascii.{ascii}
-use Rattle.forms.specs.Text.{with_number, Written}
+use Rattle.forms.specs.Text.{with_number, PutWithin}
 use Rattle.forms.proofs.Decimals.{with_number_short}
-use Rattle.forms.proofs.Writing.{written_on}
+use Rattle.forms.proofs.Paging.{put_none, put_on}
 use Rattle.sweep.specs.Forms.{hit_form, hit_forms, unread_form, total_form}
 
 -- HOW LONG they are, with numbers of 32 and 64 bits
@@ -65,42 +69,42 @@ hits_more : (f : ℕ) (hs : List Hit) (p n : ℕ) → hit_forms f (hs ++ (hit p 
 unfolding hit_forms
 hits_more f hs p n = hits_append f hs (hit p n ∷ []) ∙ ap (λ (l : List ℕ). hit_forms f hs ++ l) (append-nil (hit_form f p n))
 
--- THE HITS OF TWO LISTS, pair by pair
-paired_next : (ps ns : List ℕ) (i : ℕ) → i < length ps → i < length ns →
-    paired (take (suc i) ps) (take (suc i) ns) ≡ paired (take i ps) (take i ns) ++ (hit (get_or ps i 0) (get_or ns i 0) ∷ [])
+-- THE HITS OF TWO LISTS, pair by pair: those that the iterators have passed are put, and the others are what they have left
+pub record HitsPut (file : ℕ) (places numbers : List ℕ) (room : ℕ) (a : List ℕ) (it : Zip (Iter ℕ) (Iter ℕ)) (b : List ℕ) : Type 0 where
+  pub done : List Hit
+  pub whole : paired places numbers ≡ done ++ paired (iter_rest (zip_first it)) (iter_rest (zip_second it))
+  pub many : length done + length (iter_rest (zip_first it)) ≡ length places
+  pub put : PutWithin (49 * length done) (hit_forms file done) room a b
+
+pub hits_none : (file : ℕ) (ps ns : List ℕ) (room : ℕ) (a : List ℕ) (it : Zip (Iter ℕ) (Iter ℕ)) → iter_rest (zip_first it) ≡ ps → iter_rest (zip_second it) ≡ ns →
+    HitsPut file ps ns room a it a
+unfolding hit_forms
+hits_none file ps ns room a it e f =
+    record { done = []; whole = rw (e, f); many = rw e (omega arith); put = (put_none room a, omega arith) }
+
+no_pairs : (ps ns : List ℕ) → (ps ≡ []) ⊎ (ns ≡ []) → paired ps ns ≡ []
 unfolding paired
-paired_next [] ns i h k = absurd (omega arith)
-paired_next (p ∷ ps) [] i h k = absurd (omega arith)
-paired_next (p ∷ ps) (n ∷ ns) zero h k = refl
-paired_next (p ∷ ps) (n ∷ ns) (suc i) h k = ap (λ (l : List Hit). hit p n ∷ l) (paired_next ps ns i (omega arith) (omega arith))
+no_pairs [] ns e = refl
+no_pairs (p ∷ ps) [] e = refl
+no_pairs (p ∷ ps) (n ∷ ns) (inl e) = absurd (cc)
+no_pairs (p ∷ ps) (n ∷ ns) (inr e) = absurd (cc)
 
-paired_all : (ps ns : List ℕ) (i : ℕ) → length ps ≤ i → paired (take i ps) (take i ns) ≡ paired ps ns
-unfolding paired
-paired_all [] ns zero h = refl
-paired_all [] ns (suc i) h = refl
-paired_all (p ∷ ps) ns zero h = absurd (omega arith)
-paired_all (p ∷ ps) [] (suc i) h = refl
-paired_all (p ∷ ps) (n ∷ ns) (suc i) h = ap (λ (l : List Hit). hit p n ∷ l) (paired_all ps ns i (omega arith))
+module _ {file : ℕ} {ps ns : List ℕ} {room : ℕ} {a b : List ℕ} {s : Zip (Iter ℕ) (Iter ℕ)} (v : HitsPut file ps ns room a s b) where
+  pub hits_next : {t : Zip (Iter ℕ) (Iter ℕ)} {p n : ℕ} {c : List ℕ} → iter_rest (zip_first s) ≡ p ∷ iter_rest (zip_first t) → iter_rest (zip_second s) ≡ n ∷ iter_rest (zip_second t) →
+      PutWithin 49 (hit_form file p n) room b c → HitsPut file ps ns room a t c
+  unfolding paired
+  hits_next {t} {p} {n} e f w =
+      let more : length (v.done ++ (hit p n ∷ [])) ≡ suc (length v.done) = omega (arith, length-append v.done (hit p n ∷ [])) in
+      record {
+        done = v.done ++ (hit p n ∷ []);
+        whole = v.whole ∙ rw (e, f) (sym (append_assoc v.done (hit p n ∷ []) (paired (iter_rest (zip_first t)) (iter_rest (zip_second t)))));
+        many = let before = rw e at v.many in omega (arith, more);
+        put =
+            rw (hits_more file v.done p n)
+            (put_on v.put.0 w.0, omega (arith, v.put.1, w.1, more, length-append (hit_forms file v.done) (hit_form file p n)));
+      }
 
--- the forms of the first i of them
-abbrev pub first_forms : (file : ℕ) → (places numbers : List ℕ) → (i : ℕ) → List ℕ
-first_forms f ps ns i = hit_forms f (paired (take i ps) (take i ns))
-
-module _ (f : ℕ) (ps ns : List ℕ) (i : ℕ) where
-  first_more : i < length ps → i < length ns → first_forms f ps ns (i + 1) ≡ first_forms f ps ns i ++ hit_form f (get_or ps i 0) (get_or ns i 0)
-  first_more h k = rw (add-one i, paired_next ps ns i h k) (hits_more f (paired (take i ps) (take i ns)) (get_or ps i 0) (get_or ns i 0))
-
-  pub hits_next : {a b c : List ℕ} {at mid end : ℕ} → i < length ps → i < length ns →
-      Written (first_forms f ps ns i) at a mid b → Written (hit_form f (get_or ps i 0) (get_or ns i 0)) mid b end c →
-      Written (first_forms f ps ns (i + 1)) at a end c
-  hits_next h k v w = rw (first_more h k) (written_on v w)
-
-  pub hits_few : i < length ps → i < length ns → length (first_forms f ps ns i) ≤ 49 * i → length (hit_form f (get_or ps i 0) (get_or ns i 0)) ≤ 49 →
-      length (first_forms f ps ns (i + 1)) ≤ 49 * (i + 1)
-  hits_few h k v w = rw (first_more h k) (omega (arith, length-append (first_forms f ps ns i) (hit_form f (get_or ps i 0) (get_or ns i 0))))
-
-  pub hits_done : {a b : List ℕ} {at end : ℕ} → length ps ≤ i → Written (first_forms f ps ns i) at a end b → Written (hit_forms f (paired ps ns)) at a end b
-  hits_done h v = rw (paired_all ps ns i h) at v
-
-  pub hits_all : length ps ≤ i → i ≤ length ps → length (first_forms f ps ns i) ≤ 49 * i → length (hit_forms f (paired ps ns)) ≤ 49 * length ps
-  hits_all h k v = let e : i ≡ length ps = omega arith in rw (e, paired_all ps ns (length ps) (omega arith)) at v
+  pub hits_done : (iter_rest (zip_first s) ≡ []) ⊎ (iter_rest (zip_second s) ≡ []) → PutWithin (49 * length ps) (hit_forms file (paired ps ns)) room a b
+  hits_done e =
+      let all : paired ps ns ≡ v.done = v.whole ∙ rw (no_pairs _ _ e) (append-nil v.done) in
+      rw all (v.put.0, omega (arith, v.put.1, v.many))

@@ -1,13 +1,11 @@
 -- RECEIPTS for what the system did with files, as those of crates/streams are for standard input and output: shut names, and makers. Those that ask for
 -- nothing are for the proofs of two functions of src/files.rt that do nothing but call the system: make_asked, make_opened, make_given and make_missed for
 -- `open_path`; make_held, make_over and make_missed for `read_descriptor`. A third, `close_descriptor`, asks for one. Assumes nothing: these are definitions.
-use Rattle.std.specs.Prelude.{◌≡◌, Bool, true, false, List, ℕ, suc, ◌+◌, ◌^◌, ◌≤◌, ◌<◌, ℤ, negsuc, Option, Some, None, IsUtf8, length, take}
+use Rattle.std.specs.Prelude.{◌≡◌, List, ℕ, ◌+◌, ◌^◌, ◌≤◌, ◌<◌, ℤ, Option, Some, None, MatchOption, IsUtf8, length}
+use Rattle.std.specs.Coded.{Π_prop, Unit-prop}
 use Rattle.std.specs.declared.fs.File.{File}
 use Rattle.std.specs.Fd.{file_raw_fd}
-use Rattle.streams.specs.declared.Got.{Got}
-use Rattle.streams.specs.declared.Got.TheVariants.{Bytes, Failed}
-use Rattle.streams.specs.Receipts.{Answered, Moved}
-use Rattle.sweep.specs.declared.files.Disk.{Disk}
+use Rattle.streams.specs.Receipts.{Answered}
 
 -- opening number k of the run, from 1, is of this path, whatever comes of it
 pub Asked : (k : ℕ) → (path : List ℕ) → Type 0
@@ -87,54 +85,14 @@ pub record PathOpened (k : ℕ) (path : List ℕ) (got : Option File) : Type 0 w
 abbrev pub MayClose : (k : ℕ) → (file : Option File) → Type 0
 MayClose k file = (f : File) → file ≡ Some f → Given k (descriptor_of f)
 
--- WHAT A READ of a file ANSWERS, if its descriptor is the one that opening k answered, and `at` of its bytes had come. It has not been closed, since a file is
--- closed only where it is let go of
-pub record DescriptorRead (k at : ℕ) (file : File) (got : ℤ) (buffer : List ℕ) : Type 0 where
-  pub answered : Given k (descriptor_of file) → Answered (Held k) (Over k) at got buffer
-  pub fails : Given k (descriptor_of file) → (j : ℕ) → got ≡ negsuc j → Missed k
+Given_prop : (k : ℕ) (d : ℤ) → IsProp (Given k d)
+unfolding Given
+Given_prop k d = Unit-prop
 
--- THE OPEN FILE as it is kept, with two numbers, at which only src/files.rt looks: the file, or none; how many openings there were; and how many bytes of the
--- file that was opened last have come
-abbrev pub kept_of : (disk : Disk) → Option File
-kept_of d = d.file
+pub MayClose_prop : (k : ℕ) (file : Option File) → IsProp (MayClose k file)
+MayClose_prop k file = Π_prop λ f. Π_prop λ _. Given_prop k (descriptor_of f)
 
-abbrev pub openings : (disk : Disk) → ℕ
-openings d = d.openings
-
-abbrev pub came_of : (disk : Disk) → ℕ
-came_of d = d.came
-
--- none
-abbrev pub no_descriptor : Option File
-no_descriptor = None
-
--- IT HOLDS no descriptor but the one that the last opening answered
-pub record Holds (disk : Disk) : Type 0 where
-  pub given : (f : File) → kept_of disk ≡ Some f → Given (openings disk) (descriptor_of f)
-
--- IT IS OPEN: a file is kept, and its descriptor is the one that the last opening answered
-pub record IsOpen (disk : Disk) : Type 0 where
-  pub file : File
-  pub kept : kept_of disk ≡ Some file
-  pub given : Given (openings disk) (descriptor_of file)
-
--- OPENING: one more opening, of this path, and nothing of the file has come
-pub record FileOpened (path : List ℕ) (disk : Disk) (opened : Bool) (after : Disk) : Type 0 where
-  pub next : openings after ≡ suc (openings disk)
-  pub none : came_of after ≡ 0
-  pub asked : Asked (openings after) path
-  pub opens : opened ≡ true → Opened (openings after) path × (length path ≤ longest_path)
-  pub is_open : opened ≡ true → IsOpen after
-  pub fails : opened ≡ false → Missed (openings after)
-  pub shut : opened ≡ false → kept_of after ≡ no_descriptor
-
--- READING: k bytes came into a buffer, none only where the file ended, if there is room for one
-pub record FileBrought (disk : Disk) (k : ℕ) (after : Disk) (buffer : List ℕ) : Type 0 where
-  pub within : k ≤ length buffer
-  pub came : Moved (Held (openings disk)) (came_of disk) (came_of after) (take k buffer)
-  pub ends : k ≡ 0 → 1 ≤ length buffer → Over (openings disk) (came_of after)
-
--- or the read failed, and none is counted
-abbrev pub FileRead : (disk : Disk) → Got → (after : Disk) → (buffer : List ℕ) → Type 0
-FileRead d (Bytes k) e b = (openings e ≡ openings d) × FileBrought d k e b
-FileRead d Failed e b = (openings e ≡ openings d) × (came_of e ≡ came_of d) × Missed (openings d)
+-- WHAT A READ of a file ANSWERS, if its descriptor is the one that opening k answered, and `at` of its bytes had come: how many bytes it brought, or it failed.
+-- It has not been closed, since a file is closed only where it is let go of
+pub record DescriptorRead (k at : ℕ) (file : File) (got : Option ℕ) (buffer : List ℕ) : Type 0 where
+  pub answered : Given k (descriptor_of file) → MatchOption got (Missed k) (λ n. Answered (Held k) (Over k) at n buffer)

@@ -1,11 +1,13 @@
 -- THE HEAD of the input: a line for each code, and an empty line. Assumes nothing: these are definitions.
-use Rattle.std.specs.Prelude.{◌≡◌, true, List, [], ◌∷◌, ◌++◌, map, ◌≢◌, ℕ, length}
+use Rattle.std.specs.Prelude.{◌≡◌, true, List, [], ◌∷◌, ◌++◌, map, ◌≢◌, ℕ, Result, length}
+use Rattle.runs.specs.declared.Refusal.{Refusal}
+use Rattle.runs.specs.Refusals.{refusal_of}
 use Rattle.forms.specs.Line.{opening, closing_bracket, line_feed, pairs}
 use Rattle.boards.specs.Board.{bytes_of, board_room}
 use Rattle.boards.specs.Entry.{prepare_refusal}
 use Rattle.streams.specs.Receipts.{Came, Moved, MayFollow}
 use Rattle.streams.specs.Streams.{DoneOrTold, SomeCame}
-use Rattle.sweep.specs.declared.head.Head.{Head}
+use Rattle.streams.specs.declared.NotComplete.{NotComplete}
 use Rattle.sweep.specs.Looking.{OnBoard}
 
 -- a code's line, those of several, and the empty line behind them
@@ -48,5 +50,5 @@ pub record Headed (at : ℕ) (refusal : ℕ) (buffer : List ℕ) (after : ℕ) :
   pub right : refusal ≢ 8 → RightHead bytes refusal buffer
 
 -- what `read_head` promises
-abbrev pub HeadRead : (at : ℕ) → Head → (buffer : List ℕ) → (after : ℕ) → Type 0
-HeadRead at r b after = DoneOrTold r.ok (Headed at r.refusal b after) (SomeCame at after)
+abbrev pub HeadRead : (at : ℕ) → Result (Result ℕ Refusal) NotComplete → (buffer : List ℕ) → (after : ℕ) → Type 0
+HeadRead at r b after = DoneOrTold r (λ head. Headed at (refusal_of head) b after) (SomeCame at after)

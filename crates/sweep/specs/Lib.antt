@@ -1,5 +1,6 @@
 pub mod Forms
 pub mod Files
+pub mod Disk
 pub mod Saying
 pub mod Looking
 pub mod Lines

@@ -1,35 +1,28 @@
 -- WHAT THE PROGRAM DOES with the bytes that come and the files that they name, up to the whole run. Assumes nothing: these are definitions.
-use Rattle.std.specs.Prelude.{◌≡◌, Bool, true, false, List, [], ◌++◌, ◌≢◌, ℕ}
+use Rattle.std.specs.Prelude.{◌≡◌, Bool, true, false, List, [], ◌++◌, ◌≢◌, ℕ, Result, IsErr, OnOk}
 use Rattle.forms.specs.Text.{refused_form}
+use Rattle.streams.specs.declared.NotComplete.{NotComplete}
 use Rattle.streams.specs.Receipts.{Came, Ended, Sent, Told, Moved, MayFollow}
 use Rattle.streams.specs.Streams.{DoneOrTold, SomeCame}
-use Rattle.sweep.specs.declared.files.Disk.{Disk}
 use Rattle.sweep.specs.declared.list.Sweep.{Sweep}
-use Rattle.sweep.specs.declared.list.Listing.{Listing}
-use Rattle.sweep.specs.Files.{openings}
 use Rattle.sweep.specs.Forms.{total_form}
 use Rattle.sweep.specs.Saying.{Cut, Says}
 use Rattle.sweep.specs.Looking.{OnBoard}
 use Rattle.sweep.specs.Head.{head_form, AllPaired, NoHead, head_refusal}
-use Rattle.sweep.specs.Swept.{Plan, listing, AllNamed, AllRight, sweep_form, Swept, Ready, Stopped}
+use Rattle.sweep.specs.Swept.{Plan, listing, AllNamed, AllRight, sweep_form, sent_of, IsNew, Stopped, ListedOn}
 
--- THE LIST from where the sweep stood on: more of it came, and it is to be read on; or it has ended; or the sweep was stopped
-pub record Listed
-    (buffer : List ℕ) (s : Sweep) (path : List ℕ) (at from : ℕ) (a : List ℕ) (r : Listing) (path-after : List ℕ) (disk-after : Disk) (after to : ℕ) (b : List ℕ)
-    : Type 0 where
-  pub ready : r.ok ≡ true → Ready r.sweep disk-after b
+-- THE LIST from where the sweep stood on, to its end, or the sweep was stopped
+pub record Listed (buffer : List ℕ) (s : Sweep) (at : ℕ) (r : Result (Unit {0}) NotComplete) (t : Sweep) (after : ℕ) : Type 0 where
   pub bytes : List ℕ
   pub came : Moved Came at after bytes
-  pub goes : r.more ≡ true → r.ok ≡ true
-  pub ends : r.ok ≡ true → r.more ≡ false → Ended after
-  pub lists :
-      (ws : List (List ℕ)) (list : List ℕ) → OnBoard ws buffer → Swept ws list s path from a →
-      DoneOrTold r.ok (Swept ws (list ++ bytes) r.sweep path-after to b) (Stopped ws (list ++ bytes) to)
+  pub ends : OnOk r (Ended after)
+  pub listed : ListedOn buffer bytes s r t
 
 -- THE END: what was counted is said, and all that is said is sent; if the list ends within a path, nothing is, and standard error is told
-pub record Finished (s : Sweep) (from : ℕ) (a : List ℕ) (complete : Bool) (to : ℕ) (b : List ℕ) : Type 0 where
-  pub within : s.name ≢ 0 → (complete ≡ false) × Told × (to ≡ from)
-  pub says : s.name ≡ 0 → Says from s.used a (total_form s.files s.unread s.bytes s.hits) complete to 0 b
+pub record Finished (s : Sweep) (r : Result (Unit {0}) NotComplete) (t : Sweep) : Type 0 where
+  pub within : s.name ≢ [] → IsErr r × Told × (sent_of t ≡ sent_of s)
+  pub says : s.name ≡ [] → Says s.reader.printer (total_form s.counts.files s.counts.unread s.counts.bytes s.counts.hits) r t.reader.printer
+  pub unsaid : s.name ≡ [] → OnOk r (t.reader.printer.page ≡ [])
 
 -- ALL FILES of the list were read: the whole list came, and what was sent is all that is printed for them
 pub record AllSwept (ws : List (List ℕ)) (list out : List ℕ) : Type 0 where
@@ -67,10 +60,10 @@ pub record ListStopped (ws : List (List ℕ)) (at after to : ℕ) : Type 0 where
   pub stopped : StoppedAt ws some.bytes after to
 
 -- what `sweep_list` promises, where nothing was sent before
-pub record Sweeps (buffer : List ℕ) (disk : Disk) (at from : ℕ) (complete : Bool) (after to : ℕ) : Type 0 where
+pub record Sweeps (buffer : List ℕ) (s : Sweep) (at : ℕ) (r : Result (Unit {0}) NotComplete) (t : Sweep) (after : ℕ) : Type 0 where
   pub sweeps :
-      (ws : List (List ℕ)) → OnBoard ws buffer → openings disk ≡ 0 → from ≡ 0 →
-      DoneOrTold complete (ListSwept ws at after to) (ListStopped ws at after to)
+      (ws : List (List ℕ)) → OnBoard ws buffer → IsNew s →
+      DoneOrTold r (λ _. ListSwept ws at after (sent_of t)) (ListStopped ws at after (sent_of t))
 
 -- A COMPLETE RUN that was refused, by the codes of its head
 pub record RefusedHead (bytes : List ℕ) (refusal : ℕ) : Type 0 where
@@ -118,5 +111,5 @@ pub record RunStopped (after to : ℕ) : Type 0 where
   pub swept : began ≡ true → SweepStopped some.bytes after to
 
 -- THE PROGRAM's promise: a complete run, or it was stopped, and standard error was told
-abbrev pub Ran : (complete : Bool) → (after to : ℕ) → Type 0
-Ran r after to = DoneOrTold r (Complete after to) (RunStopped after to)
+abbrev pub Ran : Result (Unit {0}) NotComplete → (after to : ℕ) → Type 0
+Ran r after to = DoneOrTold r (λ _. Complete after to) (RunStopped after to)

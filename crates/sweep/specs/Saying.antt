@@ -1,14 +1,15 @@
--- WHAT IS SAID: bytes handed to standard output, and behind them the bytes gathered in a buffer. Assumes nothing: these are definitions.
-use Rattle.std.specs.Prelude.{◌≡◌, Bool, List, ◌++◌, ℕ, ◌+◌, ◌≤◌, length, take}
+-- WHAT IS SAID: bytes handed to standard output, and behind them those gathered for it. Assumes nothing: these are definitions.
+use Rattle.std.specs.Prelude.{◌≡◌, List, ◌++◌, ℕ, ◌+◌, ◌≤◌, Result, length}
+use Rattle.streams.specs.declared.NotComplete.{NotComplete}
 use Rattle.streams.specs.Receipts.{Sent, Broken, Moved}
 use Rattle.streams.specs.Streams.{DoneOrTold, PrefixOf}
-use Rattle.sweep.specs.declared.says.Room.{Room}
+use Rattle.sweep.specs.declared.says.Printer.{Printer}
 
--- SAID: all that was sent, so many bytes, and what is gathered in the first `used` bytes of a buffer
-pub record Said (sent used : ℕ) (out all : List ℕ) : Type 0 where
+-- SAID: all that was sent, and what is gathered behind it
+pub record Said (p : Printer) (all : List ℕ) : Type 0 where
   pub front : List ℕ
-  pub moved : Moved Sent 0 sent front
-  pub whole : front ++ take used out ≡ all
+  pub moved : Moved Sent 0 p.output front
+  pub whole : front ++ p.page ≡ all
 
 -- CUT SHORT: the bytes sent before a write failed, or all that were, are what `all` begins with
 pub record Cut (sent : ℕ) (all : List ℕ) : Type 0 where
@@ -19,12 +20,10 @@ pub record Cut (sent : ℕ) (all : List ℕ) : Type 0 where
   pub starts : PrefixOf front all
 
 -- WHAT A CALL SAYS behind all that was said before it; or a write failed
-pub record Says (from u : ℕ) (a bytes : List ℕ) (ok : Bool) (to v : ℕ) (b : List ℕ) : Type 0 where
-  pub size : length b ≡ length a
-  pub inside : v ≤ length b
-  pub says : (all : List ℕ) → Said from u a all → DoneOrTold ok (Said to v b (all ++ bytes)) (Cut to (all ++ bytes))
+pub record Says {A : Type 0} (p : Printer) (bytes : List ℕ) (r : Result A NotComplete) (q : Printer) : Type 0 where
+  pub says : (all : List ℕ) → Said p all → DoneOrTold r (λ _. Said q (all ++ bytes)) (Cut q.output (all ++ bytes))
 
 -- ROOM was made for `most` more bytes
-pub record Made (from u : ℕ) (a : List ℕ) (most : ℕ) (r : Room) (to : ℕ) : Type 0 where
-  pub fits : r.used + most ≤ length a
-  pub says : (all : List ℕ) → Said from u a all → DoneOrTold r.ok (Said to r.used a all) (Cut to all)
+pub record Made (p : Printer) (most : ℕ) (r : Result (Unit {0}) NotComplete) (q : Printer) : Type 0 where
+  pub fits : length q.page + most ≤ 200704
+  pub says : (all : List ℕ) → Said p all → DoneOrTold r (λ _. Said q all) (Cut q.output all)

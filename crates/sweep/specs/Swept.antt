@@ -1,15 +1,20 @@
 -- THE LIST of paths, what came of their files, and what is printed for them. Assumes nothing: these are definitions.
-use Rattle.std.specs.Prelude.{◌≡◌, Bool, true, false, cond, List, [], ◌∷◌, ◌++◌, ◌≢◌, ℕ, suc, ◌+◌, ◌≤◌, ◌<◌, min, length, take}
+use Rattle.std.specs.Prelude.{◌≡◌, Bool, true, false, cond, List, [], ◌∷◌, ◌++◌, ◌≢◌, ℕ, suc, ◌+◌, ◌≤◌, ◌<◌, Result, IfOk, length, take}
 use Rattle.words.specs.Words.{Every}
 use Rattle.runs.specs.Reading.{longest_text}
 use Rattle.starts.specs.Hits.{hits}
+use Rattle.boards.specs.declared.Watch.{Watch}
+use Rattle.streams.specs.declared.NotComplete.{NotComplete}
 use Rattle.streams.specs.Receipts.{Moved}
 use Rattle.streams.specs.Streams.{DoneOrTold, PrefixOf}
-use Rattle.sweep.specs.declared.files.Disk.{Disk}
-use Rattle.sweep.specs.declared.look.Look.{Look}
+use Rattle.sweep.specs.declared.counts.Counts.{Counts}
+use Rattle.sweep.specs.declared.look.End.{End}
+use Rattle.sweep.specs.declared.look.End.TheVariants.{Whole, Unread}
+use Rattle.sweep.specs.declared.says.Printer.{Printer}
 use Rattle.sweep.specs.declared.list.Sweep.{Sweep}
 use Rattle.sweep.specs.Forms.{hit_forms, unread_form, total_form}
-use Rattle.sweep.specs.Files.{Asked, Opened, Held, Over, Missed, Holds, openings, longest_path}
+use Rattle.sweep.specs.Files.{Asked, Opened, Held, Over, Missed, longest_path}
+use Rattle.sweep.specs.Disk.{kept_of, no_descriptor}
 use Rattle.sweep.specs.Saying.{Said, Cut, Says}
 use Rattle.sweep.specs.Looking.{OnBoard, piece_most}
 
@@ -87,54 +92,47 @@ sweep_form ws ps = files_form ws 0 ps ++ total_form (length ps) (unread_in ps) (
 unfoldable pub stopped_form : (ws : List (List ℕ)) → List Plan → (next : Plan) → List ℕ
 stopped_form ws ps p = files_form ws 0 ps ++ hit_forms (length ps) (hits ws p.text)
 
--- A NAME as it is kept: its bytes are the first n of a buffer; of one that is too long to be opened only so many as tell that it is
-pub record Kept (name : List ℕ) (n : ℕ) (path : List ℕ) : Type 0 where
-  pub size : n ≡ min (suc longest_path) (length name)
-  pub front : take n path ≡ take (suc longest_path) name
+-- THE BYTES SENT by a sweep
+abbrev pub sent_of : Sweep → ℕ
+sent_of s = s.reader.printer.output
 
--- what `keep_byte` promises: any name that was kept is kept with one byte more
-pub record KeptOn (n : ℕ) (path : List ℕ) (c m : ℕ) (path-after : List ℕ) : Type 0 where
-  pub short : m ≤ suc longest_path
-  pub keeps : (name : List ℕ) → Kept name n path → Kept (name ++ (c ∷ [])) m path-after
+-- ONE THAT BEGINS: nothing was counted, opened, sent or gathered
+pub record IsNew (s : Sweep) : Type 0 where
+  pub unnamed : s.name ≡ []
+  pub no_files : s.counts.files ≡ 0
+  pub no_unread : s.counts.unread ≡ 0
+  pub no_bytes : s.counts.bytes ≡ 0
+  pub no_hits : s.counts.hits ≡ 0
+  pub unopened : kept_of s.reader.disk ≡ no_descriptor
+  pub unsent : s.reader.printer.output ≡ 0
+  pub ungathered : s.reader.printer.page ≡ []
 
--- A SWEEP that has come so far in the list: its paths but for the last bytes, the name of the next one so far; their files are read right, counted, and
--- all that is printed for them is said
-pub record Swept (ws : List (List ℕ)) (list : List ℕ) (s : Sweep) (path : List ℕ) (sent : ℕ) (out : List ℕ) : Type 0 where
+-- A SWEEP that has come so far in the list: its paths but for the last bytes, the name of the next one so far, of which only so many bytes are kept as tell
+-- that it is too long to be opened; their files are read right, counted, and all that is printed for them is said
+pub record Swept (ws : List (List ℕ)) (list : List ℕ) (s : Sweep) : Type 0 where
   pub plans : List Plan
   pub name : List ℕ
   pub listed : listing plans ++ name ≡ list
   pub named : AllNamed plans
   pub clean : NoZero name
-  pub kept : Kept name s.name path
+  pub kept : s.name ≡ take (suc longest_path) name
   pub right : AllRight 1 plans
-  pub files_are : s.files ≡ length plans
-  pub unread_are : s.unread ≡ unread_in plans
-  pub bytes_are : s.bytes ≡ bytes_in plans
-  pub hits_are : s.hits ≡ hits_in ws plans
-  pub said : Said sent s.used out (files_form ws 0 plans)
+  pub files_are : s.counts.files ≡ length plans
+  pub unread_are : s.counts.unread ≡ unread_in plans
+  pub bytes_are : s.counts.bytes ≡ bytes_in plans
+  pub hits_are : s.counts.hits ≡ hits_in ws plans
+  pub said : Said s.reader.printer (files_form ws 0 plans)
 
--- ONE THAT IS TO GO ON: nothing failed, the bytes gathered and the name are in their buffers, each file passed is an opening, no descriptor is kept but the
--- last one's, and no more are unread than were passed
-pub record Ready (s : Sweep) (disk : Disk) (out : List ℕ) : Type 0 where
-  pub fine : s.ok ≡ true
-  pub inside : s.used ≤ length out
-  pub short : s.name ≤ suc longest_path
-  pub opened : openings disk ≡ s.files
-  pub holds : Holds disk
-  pub few : s.unread ≤ s.files
+-- A FILE PASSED after a look at it, which ended so: what it brought is counted, and it is said to be unread if it was not read to its end
+abbrev pub is_whole : End → Bool
+is_whole Whole = true
+is_whole Unread = false
 
--- A FILE PASSED after a look at it: it is counted, and said to be unread if it was not read to its end
-pub record Passed (s : Sweep) (look : Look) (from : ℕ) (a : List ℕ) (r : Sweep) (to : ℕ) (b : List ℕ) : Type 0 where
-  pub inside : r.used ≤ length b
-  pub files : r.files ≡ suc s.files
-  pub few : r.unread ≤ r.files
-  pub ok : r.ok ≡ true → look.ok ≡ true
-  pub name : r.name ≡ 0
-  pub unread : r.ok ≡ true → r.unread ≡ s.unread + cond look.whole 0 1
-  pub bytes : r.ok ≡ true → r.bytes ≡ s.bytes + look.watch.taken
-  pub hits : r.ok ≡ true → r.hits ≡ s.hits + look.watch.hits
-  pub says : look.ok ≡ true → Says from look.used a (cond look.whole [] (unread_form s.files)) r.ok to r.used b
-  pub unsaid : look.ok ≡ false → (r.ok ≡ false) × (to ≡ from)
+pub record Passed (c : Counts) (file : ℕ) (watch : Watch) (end : End) (p : Printer) (r : Result (Unit {0}) NotComplete) (d : Counts) (q : Printer) : Type 0 where
+  pub files : d.files ≡ c.files
+  pub counted :
+      IfOk r (λ _. (d.unread ≡ c.unread + cond (is_whole end) 0 1) × (d.bytes ≡ c.bytes + watch.taken) × (d.hits ≡ c.hits + watch.hits))
+  pub says : Says p (cond (is_whole end) [] (unread_form file)) r q
 
 -- STOPPED before the end: the list begins with the paths of files that were read right, and of a next one, of which some bytes may have been searched; what
 -- there is to print begins with what was sent, so that has no end form
@@ -149,10 +147,7 @@ pub record Stopped (ws : List (List ℕ)) (list : List ℕ) (sent : ℕ) : Type 
   pub cut : Cut sent (stopped_form ws plans next)
 
 -- MORE BYTES of the list: the sweep has come further by just these, or it was stopped
-pub record ListedOn
-    (buffer bytes : List ℕ) (s : Sweep) (path : List ℕ) (from : ℕ) (a : List ℕ) (r : Sweep) (path-after : List ℕ) (disk-after : Disk) (to : ℕ) (b : List ℕ) : Type 0
-  where
-    pub ready : r.ok ≡ true → Ready r disk-after b
-    pub lists :
-        (ws : List (List ℕ)) (list : List ℕ) → OnBoard ws buffer → Swept ws list s path from a →
-        DoneOrTold r.ok (Swept ws (list ++ bytes) r path-after to b) (Stopped ws (list ++ bytes) to)
+pub record ListedOn (buffer bytes : List ℕ) (s : Sweep) (r : Result (Unit {0}) NotComplete) (t : Sweep) : Type 0 where
+  pub lists :
+      (ws : List (List ℕ)) (list : List ℕ) → OnBoard ws buffer → Swept ws list s →
+      DoneOrTold r (λ _. Swept ws (list ++ bytes) t) (Stopped ws (list ++ bytes) (sent_of t))

@@ -1,249 +1,144 @@
 // A look at a file: it is opened, read piece by piece and fed to the board, and its hits are said as they are found.
-ghost use Rattle.std.specs.Prelude.{◌≡◌, false, suc, ◌*◌, ◌^◌, ◌≤◌, ◌<◌, length, take};
-ghost use Rattle.boards.specs.Feed.{opened};
-ghost use Rattle.streams.specs.Streams.{Rises};
-ghost use Rattle.sweep.specs.Files.{openings, came_of, Holds, IsOpen};
+ghost use Rattle.std.specs.Prelude.{◌≡◌, [], suc, ◌^◌, ◌<◌};
+ghost use Rattle.sweep.specs.Disk.{kept_of, openings, no_descriptor, IsOpen};
 ghost use Rattle.sweep.specs.Looking.{PartTaken, PieceTaken, Looked, PathLooked};
 
-use crate::files::{Disk, open_file, read_file};
-use crate::says::say_hits;
+use crate::files::Disk;
+use crate::says::Printer;
 use boards::Watch;
 use std::rt::HostRuntime;
-use streams::Got;
+use streams::NotComplete;
 
-// The bytes that are read at once, at most; the hits that feeding tells at once; and room for what is said of so many hits.
-pub const PIECE: usize = 262144;
+// The bytes that are read at once, at most, and the hits that feeding tells at once.
+const PIECE: usize = 262144;
 
-pub const SPOTS: usize = 4096;
+const SPOTS: usize = 4096;
 
-pub const GATHERED: usize = 49 * SPOTS;
-
-// What a part of a piece leads to: the watch, the bytes of it that were taken, the bytes gathered, whether more may be taken, and whether nothing failed.
-#[derive(Clone, Copy)]
-pub struct Part {
-    pub watch: Watch,
-    pub taken: usize,
-    pub used: usize,
-    pub more: bool,
-    pub ok: bool,
+// Room for what feeding tells of hits: their places, and the numbers of their codes, two lists as feeding takes them.
+#[derive(Drop)]
+pub struct Spots {
+    pub places: [u32; SPOTS],
+    pub numbers: [u32; SPOTS],
 }
 
-// Feeds bytes, as many as have room for their hits, and says the hits.
+// Feeds bytes, as many as have room for their hits, and says the hits; how many were taken, or none if they are refused.
+// The board, the watch and the file's number are lent one by one: a struct of them would hold a reference, and its clauses would be no plainer.
 fn take_part(
     board: &[u8],
-    watch: Watch,
+    watch: &mut Watch,
     part: &[u8],
     file: u64,
-    places: &mut [u32],
-    numbers: &mut [u32],
-    out: &mut [u8],
-    used: usize,
-    sent: &mut u64,
-) -> Part
-    requires { (used ≤ length out.old)
-        × (64 ≤ length places.old)
-        × (length numbers.old ≡ length places.old)
-        × (49 * length places.old ≤ length out.old) }
-    ensures { PartTaken board.now file watch part.now sent.old used out.old result sent.new out.new }
+    spots: &mut Spots,
+    printer: &mut Printer,
+) -> Result<Option<usize>, NotComplete>
+    ensures { PartTaken board.now file watch.old part.now printer.old result watch.new printer.new }
 {
-    let f = boards::feed(board, watch, part, places, numbers);
-    let next = f.watch;
-    let ending = f.ending;
-    let refusal = ending.refusal();
-    if refusal != 0 {
-        return Part {
-            watch: next,
-            taken: 0,
-            used: used,
-            more: false,
-            ok: true,
-        };
-    }
+    let Ok(f) = boards::feed(board, *watch, part, &mut spots.places, &mut spots.numbers) else {
+        return Ok(None);
+    };
+    *watch = f.watch;
     let n = f.written as usize;
-    let room = say_hits(sent, out, used, file, &places[..n], &numbers[..n]);
-    Part {
-        watch: next,
-        taken: f.taken as usize,
-        used: room.used,
-        more: room.ok,
-        ok: room.ok,
-    }
+    let places = &spots.places[..n];
+    let numbers = &spots.numbers[..n];
+    printer.say_hits(file, places, numbers)?;
+    Ok(Some(f.taken as usize))
 }
 
-// How far a look has come: the watch, the bytes gathered, whether more of the file is to be read, whether it was read to its end, and whether nothing failed.
-#[derive(Clone, Copy)]
-pub struct Look {
-    pub watch: Watch,
-    pub used: usize,
-    pub more: bool,
-    pub whole: bool,
-    pub ok: bool,
-}
-
-// Takes a piece, the first n bytes of a buffer, part by part.
+// Takes a piece, part by part; whether all of it was taken, which no value goes with.
 fn take_piece(
     board: &[u8],
-    first: Watch,
+    watch: &mut Watch,
     piece: &[u8],
-    n: usize,
     file: u64,
-    places: &mut [u32],
-    numbers: &mut [u32],
-    out: &mut [u8],
-    gathered: usize,
-    sent: &mut u64,
-) -> Look
-    requires { (n ≤ length piece.now)
-        × (gathered ≤ length out.old)
-        × (64 ≤ length places.old)
-        × (length numbers.old ≡ length places.old)
-        × (49 * length places.old ≤ length out.old) }
-    ensures { PieceTaken board.now file first (take n piece.now) sent.old gathered out.old result sent.new
-        out.new }
+    spots: &mut Spots,
+    printer: &mut Printer,
+) -> Result<bool, NotComplete>
+    ensures { PieceTaken board.now file watch.old piece.now printer.old result watch.new printer.new }
 {
-    let mut watch = first;
-    let mut used = gathered;
-    let mut at = 0;
-    while at < n {
-        let part = take_part(
-            board,
-            watch,
-            &piece[at..n],
-            file,
-            places,
-            numbers,
-            out,
-            used,
-            sent,
-        );
-        watch = part.watch;
-        used = part.used;
-        at += part.taken;
-        if !part.more {
-            return Look {
-                watch: watch,
-                used: used,
-                more: false,
-                whole: false,
-                ok: part.ok,
-            };
-        }
-    }
-    Look {
-        watch: watch,
-        used: used,
-        more: true,
-        whole: false,
-        ok: true,
-    }
-}
-
-// Reads the open file once more, and takes what came.
-fn look_on(
-    board: &[u8],
-    watch: Watch,
-    file: u64,
-    disk: &mut Disk,
-    piece: &mut [u8; PIECE],
-    places: &mut [u32; SPOTS],
-    numbers: &mut [u32; SPOTS],
-    out: &mut [u8; GATHERED],
-    used: usize,
-    sent: &mut u64,
-) -> Look
-    requires { (used ≤ length out.old) × IsOpen disk.old }
-    ensures { Looked board.now file watch disk.old sent.old used out.old result disk.new sent.new
-        out.new
-        × Rises result.more (came_of disk.old) (came_of disk.new)
-        × IsOpen disk.new }
-{
-    let got = read_file(disk, piece);
-    match got {
-        Got::Bytes(n) => {
-            if n == 0 {
-                return Look {
-                    watch: watch,
-                    used: used,
-                    more: false,
-                    whole: true,
-                    ok: true,
-                };
-            }
-            take_piece(
-                board, watch, piece, n, file, places, numbers, out, used, sent,
-            )
-        }
-        Got::Failed => Look {
-            watch: watch,
-            used: used,
-            more: false,
-            whole: false,
-            ok: true,
-        },
-    }
-}
-
-// Looks at the open file, as long as more of it is to be read. Each turn counts bytes that came: so it ends.
-fn look_through(
-    board: &[u8],
-    file: u64,
-    disk: &mut Disk,
-    piece: &mut [u8; PIECE],
-    places: &mut [u32; SPOTS],
-    numbers: &mut [u32; SPOTS],
-    out: &mut [u8; GATHERED],
-    used: usize,
-    sent: &mut u64,
-) -> Look
-    requires { (used ≤ length out.old) × IsOpen disk.old }
-    ensures { (result.more ≡ false)
-        × Looked board.now file opened disk.old sent.old used out.old result disk.new sent.new
-        out.new
-        × IsOpen disk.new }
-{
-    let mut look = Look {
-        watch: Watch::open(),
-        used: used,
-        more: true,
-        whole: false,
-        ok: true,
-    };
-    while look.more {
-        let watch = look.watch;
-        let gathered = look.used;
-        look = look_on(
-            board, watch, file, disk, piece, places, numbers, out, gathered, sent,
-        );
-    }
-    look
-}
-
-// Looks at the file of a path.
-pub fn look_at(
-    rt: &HostRuntime,
-    board: &[u8],
-    path: &[u8],
-    file: u64,
-    disk: &mut Disk,
-    piece: &mut [u8; PIECE],
-    places: &mut [u32; SPOTS],
-    numbers: &mut [u32; SPOTS],
-    out: &mut [u8; GATHERED],
-    used: usize,
-    sent: &mut u64,
-) -> Look
-    requires { (used ≤ length out.old) × (suc (openings disk.old) < 2 ^ 64) × Holds disk.old }
-    ensures { PathLooked board.now file path.now disk.old sent.old used out.old result disk.new
-        sent.new out.new }
-{
-    if !open_file(rt, disk, path) {
-        return Look {
-            watch: Watch::open(),
-            used: used,
-            more: false,
-            whole: false,
-            ok: true,
+    let mut rest = piece;
+    while !rest.is_empty() {
+        let Some(taken) = take_part(board, watch, rest, file, spots, printer)? else {
+            return Ok(false);
         };
+        rest = &rest[taken..];
     }
-    look_through(board, file, disk, piece, places, numbers, out, used, sent)
+    Ok(true)
+}
+
+// How a look ends: the file was read to its end, or it cannot be read on.
+#[derive(Clone, Copy, PartialEq, Eq)]
+pub enum End {
+    Whole,
+    Unread,
+}
+
+// What a look works with: the file that is open, room for a piece of it and for the hits of a part, and what is printed.
+#[derive(Drop)]
+pub struct Reader {
+    pub disk: Disk,
+    pub piece: [u8; PIECE],
+    pub spots: Spots,
+    pub printer: Printer,
+}
+
+impl Reader {
+    // No file was opened, and nothing printed.
+    pub fn new() -> Self
+        ensures { (openings result.disk ≡ 0)
+            × (kept_of result.disk ≡ no_descriptor)
+            × (result.printer.output ≡ 0)
+            × (result.printer.page ≡ []) }
+    {
+        Reader {
+            disk: Disk::new(),
+            piece: [0u8; PIECE],
+            spots: Spots {
+                places: [0u32; SPOTS],
+                numbers: [0u32; SPOTS],
+            },
+            printer: Printer::new(),
+        }
+    }
+
+    // Looks at the open file, piece by piece. Each turn counts bytes that came: so it ends.
+    fn look_through(
+        &mut self,
+        board: &[u8],
+        watch: &mut Watch,
+        file: u64,
+    ) -> Result<End, NotComplete>
+        requires { IsOpen self.old.disk }
+        ensures { Looked board.now file watch.old self.old result watch.new self.new }
+    {
+        while let Some(n) = self.disk.read_file(&mut self.piece) {
+            if n == 0 {
+                return Ok(End::Whole);
+            }
+            let piece = &self.piece[..n];
+            let spots = &mut self.spots;
+            let all = take_piece(board, watch, piece, file, spots, &mut self.printer)?;
+            if !all {
+                return Ok(End::Unread);
+            }
+        }
+        Ok(End::Unread)
+    }
+
+    // Looks at the file of a path.
+    pub fn look_at(
+        &mut self,
+        rt: &HostRuntime,
+        board: &[u8],
+        watch: &mut Watch,
+        path: &[u8],
+        file: u64,
+    ) -> Result<End, NotComplete>
+        requires { suc (openings self.old.disk) < 2 ^ 64 }
+        ensures { PathLooked board.now file watch.old path.now self.old result watch.new self.new }
+    {
+        if !self.disk.open_file(rt, path) {
+            return Ok(End::Unread);
+        }
+        self.look_through(board, watch, file)
+    }
 }

@@ -1,132 +1,135 @@
-// What is printed: the forms of hits, unread files and the end are gathered in a buffer, and sent when it is full.
-ghost use Rattle.std.specs.Prelude.{[], ◌*◌, ◌≤◌, length};
-ghost use Rattle.forms.specs.Text.{WrittenWithin};
+// What is printed: the forms of hits, unread files and the end are gathered on a page, and sent when it is full.
+ghost use Rattle.std.specs.Prelude.{◌≡◌, [], ◌*◌, ◌≤◌, length};
+ghost use Rattle.runs.specs.Refusals.{refusal_number};
+ghost use Rattle.forms.specs.Text.{PutWithin, refused_form};
 ghost use Rattle.boards.specs.Entry.{paired};
+ghost use Rattle.streams.specs.Streams.{SentOrTold};
 ghost use Rattle.sweep.specs.Forms.{hit_form, hit_forms, unread_form, total_form};
 ghost use Rattle.sweep.specs.Saying.{Says, Made};
 
-// So many bytes of the buffer are gathered, and whether nothing failed.
-#[derive(Clone, Copy)]
-pub struct Room {
-    pub used: usize,
-    pub ok: bool,
-}
+use crate::counts::Counts;
+use forms::Page;
+use runs::Refusal;
+use streams::{NotComplete, Output};
 
-// Sends what is gathered, the first bytes of a buffer.
-pub fn send_gathered(sent: &mut u64, out: &[u8], used: usize) -> bool
-    requires { used ≤ length out.now }
-    ensures { Says sent.old used out.now [] result sent.new 0 out.now }
-{
-    streams::send(sent, &out[..used])
-}
+// Room for what is said of 4,096 hits.
+const GATHERED: usize = 49 * 4096;
 
-// Makes room for more bytes: sends what is gathered if they do not fit behind it.
-fn make_room(sent: &mut u64, out: &[u8], used: usize, most: usize) -> Room
-    requires { (used ≤ length out.now) × (most ≤ length out.now) }
-    ensures { Made sent.old used out.now most result sent.new }
-{
-    if out.len() - used < most {
-        let ok = send_gathered(sent, out, used);
-        return Room { used: 0, ok: ok };
-    }
-    Room {
-        used: used,
-        ok: true,
-    }
+// Standard output, and what is gathered for it.
+#[derive(Drop)]
+pub struct Printer {
+    output: Output,
+    pub page: Page<GATHERED>,
 }
 
 // Writes the form of a hit, of 49 bytes at most.
-fn put_hit(out: &mut [u8], at: usize, file: u64, place: u32, number: u32) -> usize
-    ensures { WrittenWithin 49 (hit_form file place number) at out.old result out.new }
+fn put_hit(page: &mut Page<GATHERED>, file: u64, place: u32, number: u32)
+    ensures { PutWithin 49 (hit_form file place number) GATHERED page.old page.new }
 {
-    let a = forms::put_number(out, at, b"(hit ", file);
-    let b = forms::put_number(out, a, b" ", place as u64);
-    let c = forms::put_number(out, b, b" ", number as u64);
-    forms::put(out, c, b")\n")
+    page.put_number(b"(hit ", file);
+    page.put_number(b" ", u64::from(place));
+    page.put_number(b" ", u64::from(number));
+    page.put(b")\n");
 }
 
 // Writes the forms of as many hits as both lists have, each of 49 bytes at most.
-fn put_hits(out: &mut [u8], at: usize, file: u64, places: &[u32], numbers: &[u32]) -> usize
-    requires { length places.now ≤ length numbers.now }
-    ensures { WrittenWithin (49 * length places.now) (hit_forms file (paired places.now numbers.now)) at out.old result
-        out.new }
+fn put_hits(page: &mut Page<GATHERED>, file: u64, places: &[u32], numbers: &[u32])
+    ensures { PutWithin (49 * length places.now) (hit_forms file (paired places.now numbers.now)) GATHERED page.old
+        page.new }
 {
-    let mut end = at;
-    let mut i = 0;
-    while i < places.len() {
-        end = put_hit(out, end, file, places[i], numbers[i]);
-        i += 1;
+    for (&place, &number) in places.iter().zip(numbers) {
+        put_hit(page, file, place, number);
     }
-    end
 }
 
 // Writes the form of a file that was not read to its end, of 30 bytes at most.
-fn put_unread(out: &mut [u8], at: usize, file: u64) -> usize
-    ensures { WrittenWithin 30 (unread_form file) at out.old result out.new }
+fn put_unread(page: &mut Page<GATHERED>, file: u64)
+    ensures { PutWithin 30 (unread_form file) GATHERED page.old page.new }
 {
-    let a = forms::put_number(out, at, b"(unread ", file);
-    forms::put(out, a, b")\n")
+    page.put_number(b"(unread ", file);
+    page.put(b")\n");
 }
 
 // Writes the form of the end, of 122 bytes at most.
-fn put_total(out: &mut [u8], at: usize, files: u64, unread: u64, bytes: u64, hits: u64) -> usize
-    ensures { WrittenWithin 122 (total_form files unread bytes hits) at out.old result out.new }
+fn put_total(page: &mut Page<GATHERED>, counts: Counts)
+    ensures { PutWithin 122 (total_form counts.files counts.unread counts.bytes counts.hits) GATHERED page.old page.new }
 {
-    let a = forms::put_number(out, at, b"(end (files ", files);
-    let b = forms::put_number(out, a, b") (unread ", unread);
-    let c = forms::put_number(out, b, b") (bytes ", bytes);
-    let d = forms::put_number(out, c, b") (hits ", hits);
-    forms::put(out, d, b"))\n")
+    page.put_number(b"(end (files ", counts.files);
+    page.put_number(b") (unread ", counts.unread);
+    page.put_number(b") (bytes ", counts.bytes);
+    page.put_number(b") (hits ", counts.hits);
+    page.put(b"))\n");
 }
 
-// Says the hits of two lists, places and numbers.
-pub fn say_hits(
-    sent: &mut u64,
-    out: &mut [u8],
-    used: usize,
-    file: u64,
-    places: &[u32],
-    numbers: &[u32],
-) -> Room
-    requires { (used ≤ length out.old) × (length places.now ≤ length numbers.now) × (49 * length places.now ≤ length out.old) }
-    ensures { Says sent.old used out.old (hit_forms file (paired places.now numbers.now)) result.ok sent.new
-        result.used out.new }
-{
-    let room = make_room(sent, out, used, 49 * places.len());
-    Room {
-        used: put_hits(out, room.used, file, places, numbers),
-        ok: room.ok,
+impl Printer {
+    // Nothing is sent or gathered.
+    pub fn new() -> Self
+        ensures { (result.output ≡ 0) × (result.page ≡ []) }
+    {
+        Printer {
+            output: Output::new(),
+            page: Page::new(),
+        }
     }
-}
 
-// Says that a file was not read to its end.
-pub fn say_unread(sent: &mut u64, out: &mut [u8], used: usize, file: u64) -> Room
-    requires { (used ≤ length out.old) × (30 ≤ length out.old) }
-    ensures { Says sent.old used out.old (unread_form file) result.ok sent.new result.used out.new }
-{
-    let room = make_room(sent, out, used, 30);
-    Room {
-        used: put_unread(out, room.used, file),
-        ok: room.ok,
+    // Sends what is gathered.
+    pub fn send_gathered(&mut self) -> Result<(), NotComplete>
+        ensures { Says self.old [] result self.new × (self.new.page ≡ []) }
+    {
+        let sent = self.output.send(self.page.bytes());
+        self.page.clear();
+        sent
     }
-}
 
-// Says the end.
-pub fn say_total(
-    sent: &mut u64,
-    out: &mut [u8],
-    used: usize,
-    files: u64,
-    unread: u64,
-    bytes: u64,
-    hits: u64,
-) -> Room
-    requires { (used ≤ length out.old) × (122 ≤ length out.old) }
-    ensures { Says sent.old used out.old (total_form files unread bytes hits) result.ok sent.new result.used out.new }
-{
-    let room = make_room(sent, out, used, 122);
-    Room {
-        used: put_total(out, room.used, files, unread, bytes, hits),
-        ok: room.ok,
+    // Makes room for more bytes: sends what is gathered if they do not fit behind it.
+    fn make_room(&mut self, most: usize) -> Result<(), NotComplete>
+        requires { most ≤ GATHERED }
+        ensures { Made self.old most result self.new }
+    {
+        if self.page.left() < most {
+            return self.send_gathered();
+        }
+        Ok(())
+    }
+
+    // Says the hits of two lists, places and numbers. This and the next two are one by one: a closure for the form would have the form and its most bytes said
+    // once more in the contract.
+    pub fn say_hits(
+        &mut self,
+        file: u64,
+        places: &[u32],
+        numbers: &[u32],
+    ) -> Result<(), NotComplete>
+        requires { 49 * length places.now ≤ GATHERED }
+        ensures { Says self.old (hit_forms file (paired places.now numbers.now)) result self.new }
+    {
+        self.make_room(49 * places.len())?;
+        put_hits(&mut self.page, file, places, numbers);
+        Ok(())
+    }
+
+    // Says that a file was not read to its end.
+    pub fn say_unread(&mut self, file: u64) -> Result<(), NotComplete>
+        ensures { Says self.old (unread_form file) result self.new }
+    {
+        self.make_room(30)?;
+        put_unread(&mut self.page, file);
+        Ok(())
+    }
+
+    // Says the end.
+    pub fn say_total(&mut self, counts: Counts) -> Result<(), NotComplete>
+        ensures { Says self.old (total_form counts.files counts.unread counts.bytes counts.hits) result self.new }
+    {
+        self.make_room(122)?;
+        put_total(&mut self.page, counts);
+        Ok(())
+    }
+
+    // Prints a refusal as the only line.
+    pub fn print_refusal(&mut self, refusal: Refusal) -> Result<(), NotComplete>
+        ensures { SentOrTold self.old.output (refused_form (refusal_number refusal)) result self.new.output }
+    {
+        self.output.print_refusal(refusal.number())
     }
 }

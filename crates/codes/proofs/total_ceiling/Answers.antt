@@ -1,17 +1,13 @@
 -- `total_ceiling` meets its contract. Assumes nothing.
-use mathlib.Core.Path.{◌≡◌, sym, ◌∙◌}
+use Rattle.std.proofs.Common.{rules, ◌≡◌, Err}
+use mathlib.Core.Path.{sym}
 use Prim.Native.Nat.{ℕ, ◌*◌, ◌≤◌, ◌<◌}
 use native.Mathlib.Omega.{arith}
 use native.Mathlib.Nat.{mul-le-mul_right}
 use Rattle.automaton.specs.Ceilings.{total_ceiling}
-use Rattle.codes.specs.Codes.{length_refusal, longest_code}
 use Rattle.codes.specs.Entry.{total_answer}
-use Rattle.codes.proofs.Refusals.{answered_value, answered_refusal, length_bounds}
+use Rattle.codes.proofs.Refusals.{told_value, told_refused, length_bounds}
 use Rattle.codes.proofs.total_ceiling.Goals as goal
-
--- past the refusals the length is a code's
-none : (c : goal.Else-refusal-ne0) → length_refusal longest_code c.args.m ≡ 0
-none c = sym c.length_refusal-refusal.ensures ∙ c.if-refusal-ne0.false
 
 -- two factors of thirty-two bits
 product-fits : {k n : ℕ} → k < 4294967296 → n < 4294967296 → k * n < 18446744073709551616
@@ -19,20 +15,21 @@ product-fits {k} {n} a b =
     let bound : k * n ≤ 4294967296 * n = mul-le-mul_right n (omega arith) in
     omega arith
 
-pub returns-then-refusal-ne0 : goal.returns-then-refusal-ne0
+pub returns-in_err-check_length : goal.returns-in_err-check_length
 unfolding total_answer
-returns-then-refusal-ne0 c =
-    cc (answered_refusal c.length_refusal-refusal.result (total_ceiling c.args.m c.args.n) c.if-refusal-ne0.true)
+returns-in_err-check_length c =
+    let e : c.from_residual.result ≡ Err c.in_err-check_length.field-0.0 = search rules in
+    told_refused _ _ _ _ e c.in_err-check_length.ensures
 
 pub overflow_sub-total : goal.overflow_sub-total
-overflow_sub-total c = omega (arith, length_bounds _ _ (none c))
+overflow_sub-total c = omega (arith, c.from-size.ensures, (length_bounds _ _ (sym c.in_ok-check_length.ensures)).0)
 
 pub overflow_mul-total-2 : goal.overflow_mul-total-2
-overflow_mul-total-2 c = let bounds = length_bounds _ _ (none c) in record { fits = product-fits (omega arith) (omega arith) }
+overflow_mul-total-2 c = record { fits = product-fits (omega (arith, c.from-size.ensures, (length_bounds _ _ (sym c.in_ok-check_length.ensures)).1)) (omega (arith, c.from.ensures, c.ranges.n.fits)) }
 
 pub nonzero_div-total : goal.nonzero_div-total
-nonzero_div-total c = omega (arith, length_bounds _ _ (none c))
+nonzero_div-total c = omega (arith, c.from-size.ensures, (length_bounds _ _ (sym c.in_ok-check_length.ensures)).0)
 
 pub returns : goal.returns
 unfolding total_answer total_ceiling
-returns c = sym (answered_value _ _ (none c))
+returns c = rw (c.from-size.ensures, c.from.ensures) (told_value _ _ c.in_ok-check_length.ensures)

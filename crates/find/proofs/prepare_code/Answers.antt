@@ -1,5 +1,4 @@
 -- `prepare_code` meets its contract. By whether the code was kept; else its refusal is the one that preparing answers. Assumes nothing.
-use mathlib.Core.Path.{◌∙◌}
 use Rattle.find.proofs.Pieces.{code_long, code_prepared}
 use Rattle.find.proofs.prepare_code.Goals as goal
 
@@ -7,6 +6,4 @@ pub returns-then-kept-n : goal.returns-then-kept-n
 returns-then-kept-n c = code_long _ _ _ c.if-kept-n.true
 
 pub returns : goal.returns
-returns c =
-    let q = code_prepared _ _ _ _ c.prepare-answer.result c.if-kept-n.false c.prepare-answer.ensures in
-    (c.refusal.ensures ∙ q.0, q.1)
+returns c = code_prepared _ _ _ _ _ c.if-kept-n.false c.prepare.ensures

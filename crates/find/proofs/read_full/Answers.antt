@@ -6,5 +6,5 @@ use Rattle.find.proofs.read_full.Goals as goal
 pub loop-n-preserved : goal.loop-n-preserved
 loop-n-preserved c =
     let v = c.loop-n.invariant in
-    let r = c.in-Bytes.ensures in
+    let r = c.in_ok-k.ensures in
     (search rules, search rules, came_behind _ _ _ _ _ v.0 v.2 r)

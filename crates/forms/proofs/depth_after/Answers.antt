@@ -1,25 +1,21 @@
--- `depth_after` meets its contract. Assumes nothing.
-use mathlib.Core.Path.{sym, ◌∙◌}
-use Prim.Native.Nat.{◌<◌}
+-- `depth_after` meets its contract. By the byte. Assumes nothing.
+use mathlib.Core.Logic.{◌≢◌}
 use native.Mathlib.Omega.{arith}
-use borrow.Author.Tests.{ltb-true}
-use Rattle.forms.specs.Line.{deepest}
-use Rattle.forms.proofs.Pairs.{of_code_opening, of_code_closing, depth_opening, depth_closing, depth_other}
+use Rattle.forms.proofs.Pairs.{behind_opening, behind_closing, behind_feed, behind_other}
 use Rattle.forms.proofs.depth_after.Goals as goal
 
-pub overflow_add-result : goal.overflow_add-result
-overflow_add-result c =
-    let room : c.args.depth < deepest = ltb-true _ deepest (sym (of_code_opening _ _ c.if-byte-eq40.true) ∙ c.requires) in
-    omega (arith, room)
+pub returns-in-40 : goal.returns-in-40
+returns-in-40 c = behind_opening _ _ _ c.in-40.is c.checked_add.ensures
 
-pub returns-then-byte-eq40 : goal.returns-then-byte-eq40
-returns-then-byte-eq40 c = sym (depth_opening _ _ c.if-byte-eq40.true)
+pub returns-in-41 : goal.returns-in-41
+returns-in-41 c = behind_closing _ _ _ c.in-41.is c.checked_sub.ensures
 
-pub overflow_sub-result : goal.overflow_sub-result
-overflow_sub-result c = ltb-true 0 _ (sym (of_code_closing _ _ c.if-byte-eq41.true) ∙ c.requires)
+pub returns-in-10 : goal.returns-in-10
+returns-in-10 c = behind_feed _ _ c.in-10.is
 
-pub returns-then-byte-eq41 : goal.returns-then-byte-eq41
-returns-then-byte-eq41 c = sym (depth_closing _ _ c.if-byte-eq41.true)
-
-pub returns : goal.returns
-returns c = sym (depth_other _ _ c.if-byte-eq40.false c.if-byte-eq41.false)
+pub returns-in_default : goal.returns-in_default
+returns-in_default c =
+    let o : c.args.byte ≢ 40 = omega arith in
+    let s : c.args.byte ≢ 41 = omega arith in
+    let f : c.args.byte ≢ 10 = omega arith in
+    behind_other _ _ o s f

@@ -8,6 +8,6 @@ pub returns : goal.returns
 unfolding end_form
 returns c =
     let n = c.ranges in (
-      written_on (written_on (written_on c.put_number-a.ensures c.put_number-b.ensures) c.put_number-c.ensures) c.put.ensures,
+      written_on (written_on (written_on (rw c.from.ensures at c.put_number-a.ensures) (rw c.from-2.ensures at c.put_number-b.ensures)) c.put_number-c.ensures) c.put.ensures,
       end_short _ _ _ n.bytes.fits n.hits.fits n.compares.fits,
     )

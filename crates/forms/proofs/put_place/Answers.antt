@@ -5,4 +5,4 @@ use Rattle.forms.proofs.put_place.Goals as goal
 
 pub returns : goal.returns
 unfolding place_form
-returns c = (c.put_form.ensures, place_short _ c.ranges.place.fits)
+returns c = (rw c.from.ensures at c.put_form.ensures, place_short _ c.ranges.place.fits)

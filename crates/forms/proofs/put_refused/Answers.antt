@@ -5,4 +5,4 @@ use Rattle.forms.proofs.put_refused.Goals as goal
 
 pub returns : goal.returns
 unfolding refused_form
-returns c = (c.put_form.ensures, refused_short _ c.ranges.number.fits)
+returns c = (rw c.from.ensures at c.put_form.ensures, refused_short _ c.ranges.number.fits)

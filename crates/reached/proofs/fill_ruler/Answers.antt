@@ -1,14 +1,10 @@
 -- `fill_ruler` meets its contract. Assumes nothing.
 use mathlib.Core.Path.{sym, ◌∙◌}
-use Prim.Native.Nat.{◌+◌, ◌-◌}
 use native.Mathlib.Omega.{arith}
 use native.Mathlib.Numerals.{add-one}
-use lib.Count.{trailing_le}
 use lib.ListN.{length}
-use borrow.Author.Rules.{rules}
-use Rattle.reached.specs.Words.{steep_code}
 use Rattle.reached.proofs.ByteReached.{steep_length}
-use Rattle.reached.proofs.Copies.{Copied, copied_start, copied_turn, copied_end, steep_at}
+use Rattle.reached.proofs.Copies.{copied_turn, copied_end, steep_at}
 use Rattle.reached.proofs.fill_ruler.Goals as goal
 
 pub loop-i-preserved : goal.loop-i-preserved

@@ -1,12 +1,9 @@
 -- `fill_spaced` meets its contract. Assumes nothing.
 use mathlib.Core.Path.{sym, ◌∙◌}
-use Prim.Native.Nat.{◌-◌}
 use native.Mathlib.Omega.{arith}
 use lib.ListN.{length}
-use borrow.Author.Rules.{rules}
-use Rattle.reached.specs.Words.{spaced}
 use Rattle.reached.proofs.TotalReached.{spaced_length, byte_spaced}
-use Rattle.reached.proofs.Copies.{Copied, copied_start, copied_turn, copied_end}
+use Rattle.reached.proofs.Copies.{copied_turn, copied_end}
 use Rattle.reached.proofs.fill_spaced.Goals as goal
 
 pub loop-i-preserved : goal.loop-i-preserved

@@ -1,17 +1,15 @@
 -- `put_line` meets its contract. Assumes nothing.
 use native.Mathlib.Omega.{arith}
-use Rattle.forms.proofs.Writing.{written_on}
+use Rattle.forms.proofs.Paging.{put_on}
 use Rattle.reached.specs.Figures.{figures_form}
 use Rattle.reached.proofs.Counting.{figures_short}
-use borrow.Author.Rules.{rules}
 use Rattle.reached.proofs.put_line.Goals as goal
 
 pub returns : goal.returns
 unfolding figures_form
-returns c = (
-  written_on
-      (written_on
-      (written_on (written_on c.put_number-a.ensures c.put_number-b.ensures) c.put_number-c.ensures) c.put_number-d.ensures)
-      c.put.ensures,
-  figures_short c.args.start.now c.args.f c.requires.0 (omega arith) (omega arith) (omega arith) (omega arith),
-)
+returns c =
+    let m = rw c.from.ensures at c.put_number.ensures in
+    let n = rw c.from-2.ensures at c.put_number-2.ensures in (
+      put_on (put_on (put_on (put_on m n) c.put_number-3.ensures) c.put_number-4.ensures) c.put.ensures,
+      figures_short c.args.start.now c.args.f c.requires (omega arith) (omega arith) (omega arith) (omega arith),
+    )

@@ -1,6 +1,5 @@
 -- `spaced_byte` meets its contract. Assumes nothing.
 use mathlib.Core.Path.{sym}
-use borrow.Author.Rules.{rules}
 use Rattle.reached.proofs.TotalReached.{spaced_a, spaced_b}
 use Rattle.reached.proofs.spaced_byte.Goals as goal
 

@@ -6,8 +6,8 @@ use Rattle.sheets.proofs.named_length.Goals as goal
 
 pub returns-then-buffer-eq0 : goal.returns-then-buffer-eq0
 unfolding named_length
-returns-then-buffer-eq0 c = let p = c.pair.ensures in (rw (eq-eqb _ 0 c.if-buffer-eq0.true) p.0, p.1)
+returns-then-buffer-eq0 c = (rw (eq-eqb _ 0 c.if-buffer-eq0.true) (omega (arith, c.from.ensures, c.from_be_bytes.ensures)), omega (arith, c.from.ensures))
 
 pub returns : goal.returns
 unfolding named_length
-returns c = let p = c.wide.ensures in (rw (ne_eqb _ 0 c.if-buffer-eq0.false) p.0, omega (arith, p.1))
+returns c = (rw (ne_eqb _ 0 c.if-buffer-eq0.false) c.from-2.ensures, omega (arith, c.from-2.ensures))

@@ -1,26 +1,34 @@
--- `join` meets its contract. Past each test the buffer begins with a board, and its lengths are read. Assumes nothing.
+-- `join` meets its contract. Past each test the buffer begins with a board, and its codes are read. Assumes nothing.
+use mathlib.Core.Path.{◌≡◌, ap, ◌∙◌}
 use mathlib.Core.Bool.{and-false}
-use Rattle.boards.specs.Board.{begins}
-use Rattle.boards.proofs.Listing.{good_of}
-use Rattle.boards.proofs.Naming.{named_of}
-use Rattle.boards.proofs.Joins.{says_no_board, says_joined}
+use Rattle.std.proofs.Common.{rules, Err}
+use Rattle.boards.specs.Board.{begins, named_lengths, named_bytes}
+use Rattle.boards.proofs.Naming.{NamedBy}
+use Rattle.boards.proofs.Joins.{read_refused, read_passed, says_no_board, says_joined}
 use Rattle.boards.proofs.joining.join.Goals as goal
 
-pub returns-then-first_end-eq0 : goal.returns-then-first_end-eq0
-returns-then-first_end-eq0 c = says_no_board _ _ _ (rw (c.read_board-first_end.ensures.none c.if-first_end-eq0.true))
+pub returns-in_err-first : goal.returns-in_err-first
+returns-in_err-first c =
+    let e : c.from_residual.result ≡ Err c.in_err-first.field-0.0 = search rules in
+    let t = read_refused c.in_err-first.field-0.0 _ c.in_err-first.ensures.refusal in
+    rw (e, t.1) (says_no_board _ _ _ (rw t.0))
 
-pub returns-then-second_end-eq0 : goal.returns-then-second_end-eq0
-returns-then-second_end-eq0 c =
-    says_no_board _ _ _ (rw (c.read_board-second_end.ensures.none c.if-second_end-eq0.true) (and-false (begins c.args.first.now)))
-
-pub join_codes-requires : goal.join_codes-requires
-join_codes-requires c =
-    let f = c.read_board-first_end.ensures.some c.if-first_end-eq0.false in
-    let s = c.read_board-second_end.ensures.some c.if-second_end-eq0.false in
-    (good_of _ _ (named_of f.1 _ f.2 c.wide-j.ensures.0).listed, good_of _ _ (named_of s.1 _ s.2 c.wide-k.ensures.0).listed)
+pub returns-in_err-second : goal.returns-in_err-second
+returns-in_err-second c =
+    let e : c.from_residual-in_err-second.result ≡ Err c.in_err-second.field-0.0 = search rules in
+    let t = read_refused c.in_err-second.field-0.0 _ c.in_err-second.ensures.refusal in
+    rw (e, t.1) (says_no_board _ _ _ (rw t.0 (and-false (begins c.args.first.now))))
 
 pub returns : goal.returns
 returns c =
-    let f = c.read_board-first_end.ensures.some c.if-first_end-eq0.false in
-    let s = c.read_board-second_end.ensures.some c.if-second_end-eq0.false in
-    says_joined _ _ _ (named_of f.1 _ f.2 c.wide-j.ensures.0) (named_of s.1 _ s.2 c.wide-k.ensures.0) f.0 s.0 c.join_codes.ensures
+    let m : NamedBy c.args.first.now c.codes.result.lengths.now c.codes.result.bytes.now = record {
+      lengths_are = c.codes.ensures.lengths ∙ ap named_lengths c.in_ok-first.ensures.ok;
+      bytes_are = c.codes.ensures.bytes ∙ ap named_bytes c.in_ok-first.ensures.ok;
+      listed = c.codes.result.listed;
+    } in
+    let n : NamedBy c.args.second.now c.codes-2.result.lengths.now c.codes-2.result.bytes.now = record {
+      lengths_are = c.codes-2.ensures.lengths ∙ ap named_lengths c.in_ok-second.ensures.ok;
+      bytes_are = c.codes-2.ensures.bytes ∙ ap named_bytes c.in_ok-second.ensures.ok;
+      listed = c.codes-2.result.listed;
+    } in
+    says_joined _ _ _ m n (read_passed _ c.in_ok-first.ensures.refusal) (read_passed _ c.in_ok-second.ensures.refusal) c.join_codes.ensures

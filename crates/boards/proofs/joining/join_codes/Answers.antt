@@ -1,23 +1,22 @@
 -- `join_codes` meets its contract. The codes of both are listed, then prepared. Assumes nothing.
 use native.Mathlib.Omega.{arith}
-use Rattle.automaton.specs.Costs.{sum}
-use Rattle.boards.proofs.Listed.{first_room, second_room, both_listed, listed_within, listed_prepares}
+use Rattle.boards.specs.Join.{joined}
+use Rattle.boards.proofs.Listing.{good_of}
+use Rattle.boards.proofs.Cuts.{cut_length, cut_total}
+use Rattle.boards.proofs.Listed.{listed_prepares}
 use Rattle.boards.proofs.joining.join_codes.Goals as goal
 
-pub list_codes-own-requires : goal.list_codes-own-requires
-unfolding sum
-list_codes-own-requires c = let x = c.requires.0 in (omega arith, omega (arith, x.sums), first_room x)
+pub shared_ref_as_front-prepare : goal.shared_ref_as_front-prepare
+shared_ref_as_front-prepare c =
+    let k = c.args.second in
+    omega (arith, c.of-list.ensures.few, c.push_lacking.ensures.count_few, cut_length k.lengths.now k.bytes.now, k.codes_few)
 
-pub list_codes-all-requires : goal.list_codes-all-requires
-list_codes-all-requires c =
-    let g = c.requires in
-    (omega (arith, g.0.sums), omega (arith, g.1.sums), second_room g.0 c.list_codes-own.ensures g.1)
-
-pub slice_bounds-prepare-end : goal.slice_bounds-prepare-end
-slice_bounds-prepare-end c = (listed_within (both_listed c.requires.0 c.list_codes-own.ensures c.list_codes-all.ensures)).0
-
-pub slice_bounds-prepare-end-2 : goal.slice_bounds-prepare-end-2
-slice_bounds-prepare-end-2 c = (listed_within (both_listed c.requires.0 c.list_codes-own.ensures c.list_codes-all.ensures)).1
+pub shared_ref_as_front-prepare-2 : goal.shared_ref_as_front-prepare-2
+shared_ref_as_front-prepare-2 c =
+    let k = c.args.second in
+    let good = good_of _ _ k.listed in
+    omega (arith, c.of-list.ensures.few, c.push_lacking.ensures.end_few, cut_total k.lengths.now k.bytes.now (omega (arith, good.sums)), good.sums, k.bytes_few)
 
 pub returns : goal.returns
-returns c = listed_prepares (both_listed c.requires.0 c.list_codes-own.ensures c.list_codes-all.ensures) c.prepare.ensures
+unfolding joined
+returns c = listed_prepares (c.push_lacking.ensures.lists _ c.of-list.ensures.listed) c.prepare.ensures

@@ -1,8 +1,7 @@
--- `put_bytes` meets its contract. The loop keeps that the bytes passed are written. Assumes nothing.
-use native.Mathlib.Omega.{arith}
-use Rattle.boards.proofs.Splices.{bytes_turn}
+-- `put_bytes` meets its contract. Assumes nothing.
+use mathlib.Core.Path.{refl}
+use Rattle.boards.proofs.Splices.{spliced_copy}
 use Rattle.boards.proofs.layout.put_bytes.Goals as goal
 
-pub loop-i-preserved : goal.loop-i-preserved
-loop-i-preserved c =
-    (omega arith, bytes_turn c.args.bytes.now c.args.area.now c.loop-i.area c.args.at c.loop-i.i c.loop-i.invariant.1 (omega arith) c.requires)
+pub returns : goal.returns
+returns c = spliced_copy c.copy_from_slice.ensures.after refl c.requires

@@ -16,4 +16,4 @@ pub loop-number-smaller : goal.loop-number-smaller
 loop-number-smaller c = omega (arith, (loop_bounds c.loop-number.invariant (omega arith)).5)
 
 pub loop-number-preserved : goal.loop-number-preserved
-loop-number-preserved c = loop_turn c.loop-number.invariant (omega arith) _ c.wide-number.ensures.0
+loop-number-preserved c = loop_turn c.loop-number.invariant (omega arith) _ c.from-number.ensures

@@ -1,7 +1,5 @@
 -- `write_place` meets its contract. By whether the code is complete. Assumes nothing.
-use mathlib.Core.Path.{refl}
 use Prim.Native.Nat.{◌+◌}
-use native.Mathlib.Omega.{arith}
 use Rattle.finder.proofs.Places.{completed_one, completed_none}
 use Rattle.finder.proofs.Repeating.{written_none, written_next}
 use Rattle.finder.proofs.piece.write_place.Goals as goal
@@ -9,24 +7,8 @@ use Rattle.finder.proofs.piece.write_place.Goals as goal
 pub returns-then-s-m : goal.returns-then-s-m
 returns-then-s-m c =
     let s = c.args.s in
-    let k = c.requires.room in
-    record {
-      state = refl;
-      cost = refl;
-      at = refl;
-      written =
-          rw (completed_one c.args.m s.state (c.args.before + s.at) c.if-s-m.true)
-          (written_next (written_none c.args.places.now c.args.k (omega (arith, k))) k _);
-    }
+    rw (completed_one c.args.m s.state (c.args.before + s.at) c.if-s-m.true) (written_next (written_none c.args.places.now) c.requires.room _)
 
-pub returns-else-s-m : goal.returns-else-s-m
-returns-else-s-m c =
-    let s = c.args.s in
-    record {
-      state = refl;
-      cost = refl;
-      at = refl;
-      written =
-          rw (completed_none c.args.m s.state (c.args.before + s.at) c.if-s-m.false)
-          (written_none c.args.places.now c.args.k (omega (arith, c.requires.room)));
-    }
+pub returns : goal.returns
+returns c =
+    let s = c.args.s in rw (completed_none c.args.m s.state (c.args.before + s.at) c.if-s-m.false) (written_none c.args.places.now)

@@ -2,8 +2,5 @@
 use Rattle.sweep.specs.Files.{make_asked, make_opened, make_given, make_missed}
 use Rattle.sweep.proofs.files.open_path.Goals as goal
 
-pub returns-in-Ok : goal.returns-in-Ok
-returns-in-Ok c = record { asked = make_asked _ _; opens = λ f e. (make_opened _ _, make_given _ _); fails = λ e. make_missed _ }
-
-pub returns-in-Err : goal.returns-in-Err
-returns-in-Err c = record { asked = make_asked _ _; opens = λ f e. (make_opened _ _, make_given _ _); fails = λ e. make_missed _ }
+pub returns : goal.returns
+returns c = record { asked = make_asked _ _; opens = λ f e. (make_opened _ _, make_given _ _); fails = λ e. make_missed _ }

@@ -1,28 +1,20 @@
 -- `take_part` meets its contract. By whether feeding is refused. Assumes nothing.
-use mathlib.Core.Path.{sym, ◌∙◌}
 use native.Mathlib.Omega.{arith}
-use lib.Seq.{length-take-le}
+use Rattle.runs.proofs.Refusals.{number_some}
 use Rattle.boards.specs.Entry.{room}
-use Rattle.sweep.proofs.Parts.{part_refused, written_both, part_fed}
+use Rattle.sweep.proofs.Parts.{part_refused, written_in_room, part_fed, part_stopped, ended_none}
 use Rattle.sweep.proofs.look.take_part.Goals as goal
 
-pub returns-then-refusal-ne0 : goal.returns-then-refusal-ne0
+pub returns-in_default : goal.returns-in_default
 unfolding room
-returns-then-refusal-ne0 c =
-    let e = c.requires in
-    part_refused c.feed-f.ensures _ _ _ _ e.0 (omega (arith, e.1, e.2)) (rw c.refusal-refusal.ensures at c.if-refusal-ne0.true)
+returns-in_default c = part_refused c.in_default.ensures _ _ (omega arith) (number_some _)
 
-pub slice_bounds-say_hits-end : goal.slice_bounds-say_hits-end
-slice_bounds-say_hits-end c = (written_both c.feed-f.ensures (sym c.refusal-refusal.ensures ∙ c.if-refusal-ne0.false)).0
-
-pub slice_bounds-say_hits-end-2 : goal.slice_bounds-say_hits-end-2
-slice_bounds-say_hits-end-2 c = sym (length-take-le _ _ (written_both c.feed-f.ensures (sym c.refusal-refusal.ensures ∙ c.if-refusal-ne0.false)).0)
-
-pub slice_bounds-say_hits-end-3 : goal.slice_bounds-say_hits-end-3
-slice_bounds-say_hits-end-3 c = (written_both c.feed-f.ensures (sym c.refusal-refusal.ensures ∙ c.if-refusal-ne0.false)).1
-
-pub slice_bounds-say_hits-end-4 : goal.slice_bounds-say_hits-end-4
-slice_bounds-say_hits-end-4 c = sym (length-take-le _ _ (written_both c.feed-f.ensures (sym c.refusal-refusal.ensures ∙ c.if-refusal-ne0.false)).1)
+pub shared_ref_as_front-places : goal.shared_ref_as_front-places
+unfolding room
+shared_ref_as_front-places c = omega (arith, written_in_room c.in-Ok.ensures (ended_none _))
 
 pub returns : goal.returns
-returns c = part_fed c.feed-f.ensures (sym c.refusal-refusal.ensures ∙ c.if-refusal-ne0.false) c.say_hits-room.ensures
+returns c = part_fed c.in-Ok.ensures (ended_none _) c.in_ok-say_hits.ensures
+
+pub returns-in_err-say_hits : goal.returns-in_err-say_hits
+returns-in_err-say_hits c = part_stopped c.in-Ok.ensures (ended_none _) _ c.from_residual.ensures.0 c.in_err-say_hits.ensures

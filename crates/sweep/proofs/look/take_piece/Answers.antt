@@ -1,25 +1,22 @@
 -- `take_piece` meets its contract. Each turn takes at least a byte. Assumes nothing.
-use mathlib.Core.Path.{refl}
-use Prim.Native.Nat.{zero-le}
-use Rattle.sweep.proofs.Pieces.{taken_none, at_most, part_of, taken_more, taken_on, piece_left, piece_done}
-use borrow.Author.Tests.{not-true, not-false}
 use borrow.Author.Rules.{rules}
+use Rattle.sweep.proofs.Pieces.{taken_none, rest_is, taken_on, fewer_left, piece_refused, piece_stopped, piece_done}
 use Rattle.sweep.proofs.look.take_piece.Goals as goal
 
-pub loop-at-init : goal.loop-at-init
-loop-at-init c = (zero-le, refl, refl, refl, taken_none _ _ _ _ _ _ _ (search rules))
+pub loop-rest-init : goal.loop-rest-init
+loop-rest-init c = taken_none _ _ _ _ _
 
-pub returns-then-not-part : goal.returns-then-not-part
-returns-then-not-part c =
-    let v = c.loop-at.invariant in
-    piece_left v.4 (part_of _ _ _ v.0 c.requires.0) c.take_part-part.ensures (not-true _ c.if-not-part.true)
+pub loop-rest-preserved : goal.loop-rest-preserved
+loop-rest-preserved c = taken_on c.loop-rest.invariant (rw c.in-Some.is at c.in_ok-taken.ensures) (rest_is c.in-Some.taken c.loop-rest.rest.now)
 
-pub loop-at-preserved : goal.loop-at-preserved
-loop-at-preserved c =
-    let v = c.loop-at.invariant in
-    let h = c.requires.0 in
-    let t = taken_on v.4 (part_of _ _ _ v.0 h) c.take_part-part.ensures (not-false _ c.if-not-part.false) in
-    (at_most _ _ _ h (taken_more v.4 (part_of _ _ _ v.0 h) c.take_part-part.ensures).within, search rules, search rules, search rules, t)
+pub loop-rest-smaller : goal.loop-rest-smaller
+loop-rest-smaller c = fewer_left c.loop-rest.invariant (rw c.in-Some.is at c.in_ok-taken.ensures) (rest_is c.in-Some.taken c.loop-rest.rest.now) (search rules)
+
+pub returns-in_default : goal.returns-in_default
+returns-in_default c = piece_refused c.loop-rest.invariant (rw c.in_default.is at c.in_ok-taken.ensures)
+
+pub returns-in_err-taken : goal.returns-in_err-taken
+returns-in_err-taken c = piece_stopped c.loop-rest.invariant _ c.from_residual.ensures.0 c.in_err-taken.ensures
 
 pub returns : goal.returns
-returns c = piece_done _ _ c.loop-at.invariant.4 c.loop-at-test.false c.requires.0
+returns c = piece_done c.loop-rest.invariant (search rules)

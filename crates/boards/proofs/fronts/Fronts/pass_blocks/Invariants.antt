@@ -1,0 +1,11 @@
+-- `pass_blocks` meets its contract. The loop keeps that no code begins at a byte passed. Assumes nothing.
+use Prim.Native.Nat.{◌-◌}
+use lib.ListN.{length}
+use Rattle.boards.specs.Fronts.{Passed}
+use Rattle.boards.proofs.fronts.Fronts.pass_blocks.Given as goal
+
+abbrev pub invariant-loop-i : goal.invariant-loop-i
+invariant-loop-i l = Passed l.self.words l.piece l.from l.i
+
+abbrev pub decreases-loop-i : goal.decreases-loop-i
+decreases-loop-i l = length l.piece - l.i

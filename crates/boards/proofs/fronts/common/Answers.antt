@@ -1,7 +1,0 @@
--- `common` meets its contract. Assumes nothing.
-use Rattle.boards.specs.Fronts.{common_at}
-use Rattle.boards.proofs.fronts.common.Goals as goal
-
-pub returns : goal.returns
-unfolding common_at
-returns c = cc

@@ -1,0 +1,1 @@
+-- `read` meets its contract. Assumes nothing.
