@@ -25,7 +25,7 @@ known_zero : (u : List ℕ) → known [] u ≡ true → u ≡ []
 known_zero [] k = refl
 known_zero (c ∷ u) k = absurd (never_both k (known_none (c ∷ u) (omega arith)))
 
-tree_none : (t : TreeLists) → Roomy t → ((g : ℕ) → g < length t.next → get_or t.next g 0 ≡ 256) → ((g : ℕ) → get_or t.forks g 0 ≡ 0) →
+pub tree_none : (t : TreeLists) → Roomy t → ((g : ℕ) → g < length t.next → get_or t.next g 0 ≡ 256) → ((g : ℕ) → get_or t.forks g 0 ≡ 0) →
     ((c : ℕ) → get_or t.keys c 0 ≡ 0) → Tree [] t
 unfolding branches_off total
 tree_none t room next forks keys =
@@ -44,7 +44,7 @@ tree_none t room next forks keys =
       codes_few = omega arith;
     }
 
-ended_none : (ends : List ℕ) → 2001 ≤ length ends → ((g : ℕ) → get_or ends g 0 ≡ 0) → Ended [] ends
+pub ended_none : (ends : List ℕ) → 2001 ≤ length ends → ((g : ℕ) → get_or ends g 0 ≡ 0) → Ended [] ends
 unfolding is_code
 ended_none ends long zeros =
     record { numbers = λ u k. zeros (state [] u) ∙ sym (number_none [] u refl); none = λ g f. zeros g; long = long }

@@ -107,7 +107,7 @@ module _ {ws : List (List ℕ)} {w : List ℕ} {l : CodeList} where
   list_new t p = record { lists = λ us s. rw t (rw (lacking_all (w ∷ [])) at (p.lists us s)); count_few = p.count_few; end_few = p.end_few }
 
 -- some codes, then others
-lists_then : {ws xs ys : List (List ℕ)} {l m n : CodeList} → Lists ws xs l m → Lists ws ys m n → Lists ws (xs ++ ys) l n
+pub lists_then : {ws xs ys : List (List ℕ)} {l m n : CodeList} → Lists ws xs l m → Lists ws ys m n → Lists ws (xs ++ ys) l n
 lists_then {ws} {xs} {ys} f g =
     record {
       lists = λ us s. rw (lacking_append ws xs ys, ← append_assoc us (lacking ws xs) (lacking ws ys)) (g.lists (us ++ lacking ws xs) (f.lists us s));

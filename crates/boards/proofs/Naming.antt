@@ -101,7 +101,7 @@ module _ (buffer b : List ℕ) (k n : ℕ) (few : k ≤ 64) (count : k ≡ get_o
   abbrev bytes : List ℕ
   bytes = take (1 + 2 * k + n - (1 + 2 * k)) (drop (1 + 2 * k) buffer)
 
-  bytes_behind : bytes ≡ named_bytes buffer
+  pub bytes_behind : bytes ≡ named_bytes buffer
   unfolding named_bytes
   bytes_behind =
       let at : 1 + 2 * k + n - (1 + 2 * k) ≡ sum (named_lengths buffer) = omega (arith, e, ap sum read) in

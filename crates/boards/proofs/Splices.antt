@@ -1,13 +1,11 @@
 -- A list written part by part: nothing, some bytes, one part after another, and a list with all of them in front. Assumes nothing.
 use mathlib.Core.Path.{◌≡◌, refl, sym, ap, ◌∙◌}
 use mathlib.Core.List.{List, [], ◌∷◌, ◌++◌, append-nil, append_assoc}
-use Prim.Native.Nat.{ℕ, zero, suc, ◌-◌, ◌+◌, ◌*◌, ◌/◌, ◌%◌, ◌≤◌, ◌<◌}
+use Prim.Native.Nat.{ℕ, zero, suc, ◌+◌, ◌*◌, ◌/◌, ◌%◌, ◌≤◌, ◌<◌}
 use native.Mathlib.Numerals.{add-one}
 use native.Mathlib.Omega.{arith}
-use lib.ListN.{length, get_or, take, drop, set, length-append, length-drop, take-append-drop}
+use lib.ListN.{length, get_or, take, drop, set, length-append, take-append-drop}
 use lib.Seq.{take-suc, take_at, drop_at, length-take-le, sets, sets-eq, length-sets}
-use borrow.Rule.Slice.PartMut.{put_mid}
-use Rattle.std.proofs.lemmas.Slice.{take-put_mid, drop-put_mid}
 use Rattle.words.specs.Words.{in_front}
 use Rattle.words.proofs.Lists.{length_snoc, drop_more}
 use Rattle.sheets.specs.Sheet.{number, numbers}
@@ -27,35 +25,6 @@ spliced_sets k vs a h =
       rest = ap (drop (k + length vs)) (sets-eq vs a k h) ∙ drop_at (take k a ++ vs) rest (k + length vs) size;
       long = length-sets a k vs;
     }
-
--- a part that is copied
-pub spliced_copy : {k e : ℕ} {vs a ys : List ℕ} → ys ≡ vs → e ≡ k + length vs → e ≤ length a → Spliced k vs a (put_mid k (e - k) a ys)
-spliced_copy {k} {e} {vs} {a} {ys} is at h =
-    let gap : e - k ≡ length vs = omega arith in
-    rw (is, gap)
-    (record {
-      front = take-put_mid k (length vs) a vs (k + length vs) refl (omega arith);
-      rest = drop-put_mid k (length vs) a vs (k + length vs) (omega arith) (omega arith) refl;
-      long =
-          omega (
-            arith,
-            length-append (take k a) (vs ++ drop (length vs) (drop k a)),
-            length-append vs (drop (length vs) (drop k a)),
-            length-take-le k a (omega arith),
-            length-drop (length vs) (drop k a),
-            length-drop k a,
-          );
-    })
-
-pub spliced_first : {vs a ys : List ℕ} → ys ≡ vs → length vs ≤ length a → Spliced 0 vs a (ys ++ drop (length vs) a)
-spliced_first {vs} {a} is h =
-    let n : 0 + length vs ≡ length vs = omega arith in
-    rw is
-    (record {
-      front = rw n (take_at vs (drop (length vs) a) (length vs) refl);
-      rest = rw n (drop_at vs (drop (length vs) a) (length vs) refl);
-      long = omega (arith, length-append vs (drop (length vs) a), length-drop (length vs) a);
-    })
 
 pub spliced_on : {k : ℕ} {xs ys a b c : List ℕ} → Spliced k xs a b → Spliced (k + length xs) ys b c → Spliced k (xs ++ ys) a c
 spliced_on {k} {xs} {ys} {a} {b} {c} s t =
@@ -88,7 +57,13 @@ spliced_pair {v = v} small is s =
     let high : v / 256 % 256 ≡ v / 256 = omega arith in
     rw (is, high) at s
 
--- THE LOOPS: one number more, one row more
+-- THE LOOPS: one element more, one number more, one row more
+pub bytes_turn : (xs a b : List ℕ) (at i : ℕ) → Spliced at (take i xs) a b → i < length xs → at + length xs ≤ length a →
+    Spliced at (take (i + 1) xs) a (set b (at + i) (get_or xs i 0))
+bytes_turn xs a b at i s h r =
+    let size : length (take i xs) ≡ i = length-take-le i xs (omega arith) in
+    rw (add-one i, take-suc xs i 0 h) (spliced_more (get_or xs i 0 ∷ []) (at + i) s (omega arith) (omega arith))
+
 pub lengths_turn : (xs : List ℕ) {a b c : List ℕ} {at i : ℕ} → i < length xs → Spliced at (numbers 2 (take i xs)) a b → Spliced (at + 2 * i) (number 2 (get_or xs i 0)) b c →
     Spliced at (numbers 2 (take (i + 1) xs)) a c
 lengths_turn xs {at = at} {i} h s t =

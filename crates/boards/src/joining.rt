@@ -77,7 +77,9 @@ impl List {
         let end = codes.bytes.len();
         let mut lengths = [0; 128];
         let mut bytes = [0; 4000];
-        lengths[..count].copy_from_slice(codes.lengths);
+        for (i, &length) in codes.lengths.iter().enumerate() {
+            lengths[i] = length;
+        }
         put_bytes(codes.bytes, &mut bytes, 0);
         List {
             lengths,
@@ -115,7 +117,9 @@ impl List {
     }
 }
 
-// The board of the first codes, in their order, and of the second ones that they lack.
+// The board of the first codes, in their order, and of the second ones that they lack. It is never inlined, so that the list takes no stack while a board
+// is read.
+#[inline(never)]
 fn join_codes(first: Codes, second: Codes, buffer: &mut [u8]) -> Result<u64, Refusal>
     ensures { Prepares (joined (codes_of first.entry) (codes_of second.entry)) (told result) buffer.old buffer.new }
 {

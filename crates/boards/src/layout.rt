@@ -7,12 +7,14 @@ ghost use Rattle.boards.specs.Written.{Spliced, rows_in, OnLengths, OnBoard, Boa
 use crate::given::Codes;
 use crate::links::Links;
 
-// Puts bytes.
+// Puts bytes, one by one: `copy_from_slice` calls `memmove`, which an archive for C would then need from outside.
 pub(crate) fn put_bytes(bytes: &[u8], area: &mut [u8], at: usize)
     requires { at + length bytes.now ≤ length area.old }
     ensures { Spliced at bytes.now area.old area.new }
 {
-    area[at..at + bytes.len()].copy_from_slice(bytes);
+    for (i, &byte) in bytes.iter().enumerate() {
+        area[at + i] = byte;
+    }
 }
 
 // Puts a number in two bytes.

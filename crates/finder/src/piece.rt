@@ -33,7 +33,8 @@ fn write_place(m: usize, before: u32, s: Led, places: &mut [u32]) -> usize
 }
 
 // How many of the next `count` bytes are `byte`, in a row: a comparison for each and one for the byte behind them, if it is looked at. For each a place is
-// written, one more than the last.
+// written, one more than the last. It is never inlined: among other code its loop can begin where a processor takes 1.6 times as long for it.
+#[inline(never)]
 fn repeat(piece: &[u8], from: usize, count: usize, byte: u8, places: &mut [u32], last: u32) -> usize
     requires { Repeating piece.now from count places.old last }
     ensures { Repeated piece.now from count byte last places.old result places.new }

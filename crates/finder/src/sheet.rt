@@ -51,7 +51,7 @@ impl<'a> Sheet<'a> {
 
     // How many backward targets the states below s have, s being 1 or more: the number of the first one of s. The compiler makes the loops that ask for them
     // once for each width of a number, so codes with a short sheet are read as fast as when there were no others.
-    pub fn targets_below(&self, s: usize) -> usize
+    pub(crate) fn targets_below(&self, s: usize) -> usize
         requires { (1 ≤ s) × (s ≤ length self.now + 1) }
         ensures { (result ≡ arrows_below self.now s) × (result ≤ longest_code) × (length self.now ≤ longest_code) }
     {
@@ -64,7 +64,7 @@ impl<'a> Sheet<'a> {
     }
 
     // Target number l of all the code's, from 0.
-    pub fn target(&self, l: usize) -> usize
+    pub(crate) fn target(&self, l: usize) -> usize
         requires { l < back_arrows self.now }
         ensures { (result ≡ target_of self.now l) × (1 ≤ result) × (result ≤ length self.now) × (result ≤ longest_code) }
     {
@@ -77,7 +77,7 @@ impl<'a> Sheet<'a> {
     }
 
     // The label of an arrow with target t.
-    pub fn label(&self, t: usize) -> u8
+    pub(crate) fn label(&self, t: usize) -> u8
         requires { (1 ≤ t) × (t ≤ length self.now) }
         ensures { result ≡ label self.now t }
     {

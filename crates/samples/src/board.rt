@@ -4,7 +4,7 @@ ghost use Rattle.std.specs.Prelude.{◌≤◌, ◌<◌};
 
 use crate::{Tally, UNTOUCHED, UNWRITTEN, is_list, is_untouched, refusal, starts_with_just};
 use boards::Watch;
-use runs::Ending;
+use runs::{Ending, Refusal};
 
 const LENGTHS: [u32; 4] = [2, 3, 4, 3];
 
@@ -15,11 +15,17 @@ const MANY: [u8; 2001] = [97; 2001];
 
 const ONES: [u32; 65] = [1; 65];
 
+// Prepares a board. It is never inlined, so that what preparing works with takes no stack while a board is fed.
+#[inline(never)]
+fn prepared(lengths: &[u32], codes: &[u8], buffer: &mut [u8]) -> Result<u64, Refusal> {
+    boards::prepare(lengths, codes, buffer)
+}
+
 // Whether codes have these bytes as their board, in just enough room, and the byte behind them is as before. What prepares differs from that of a sheet, and
 // a closure of it would be as long as the function.
 fn has_board(lengths: &[u32], codes: &[u8], bytes: &[u8]) -> bool {
     let mut buffer = [UNTOUCHED; 32768];
-    boards::prepare(lengths, codes, &mut buffer) == Ok(bytes.len() as u64)
+    prepared(lengths, codes, &mut buffer) == Ok(bytes.len() as u64)
         && starts_with_just(&buffer, bytes)
 }
 
@@ -28,7 +34,7 @@ fn prepare_refuses(number: u32, lengths: &[u32], bytes: &[u8], room: usize) -> b
     requires { room ≤ 32768 }
 {
     let mut buffer = [UNTOUCHED; 32768];
-    refusal(boards::prepare(lengths, bytes, &mut buffer[..room])) == number && is_untouched(&buffer)
+    refusal(prepared(lengths, bytes, &mut buffer[..room])) == number && is_untouched(&buffer)
 }
 
 // A watch of three numbers.
@@ -49,7 +55,7 @@ fn feeds(
     requires { room ≤ 8 }
 {
     let mut board = [UNTOUCHED; 32768];
-    let size = boards::prepare(&LENGTHS, &CODES, &mut board);
+    let size = prepared(&LENGTHS, &CODES, &mut board);
     let mut places = [UNWRITTEN; 8];
     let mut numbers = [UNWRITTEN; 8];
     let Ok(fed) = boards::feed(
@@ -80,7 +86,7 @@ fn feed_refuses(
     requires { (i < 32768) × (place_room ≤ 8) × (number_room ≤ 8) }
 {
     let mut board = [UNTOUCHED; 32768];
-    let size = boards::prepare(&LENGTHS, &CODES, &mut board);
+    let size = prepared(&LENGTHS, &CODES, &mut board);
     board[i] = 254;
     let mut places = [UNWRITTEN; 8];
     let mut numbers = [UNWRITTEN; 8];

@@ -1,13 +1,12 @@
 -- Filling a whole sheet: what is before the code and the code, then state by state. Assumes nothing.
-use mathlib.Core.Path.{◌≡◌, sym, ap, subst, ◌∙◌}
-use mathlib.Core.List.{List, [], ◌++◌, append_assoc, append-nil}
+use mathlib.Core.Path.{◌≡◌, sym, ap, ◌∙◌}
+use mathlib.Core.List.{List, [], ◌∷◌, ◌++◌, append_assoc, append-nil}
 use Prim.Native.Nat.{ℕ, suc, ◌+◌, ◌*◌, ◌≤◌, ◌<◌}
 use native.Mathlib.Numerals.{add-one}
 use native.Mathlib.Nat.{le_refl, zero-mul, mul-le-mul_right}
 use native.Mathlib.Omega.{arith}
-use lib.ListN.{length, take, drop, set, length-set}
-use lib.Seq.{sets, drop-drop}
-use Rattle.std.proofs.lemmas.List.Edits.{sets-eq}
+use lib.ListN.{length, get_or, take, set, length-append, length-set}
+use lib.Seq.{take-suc, length-take-le, sets}
 use Rattle.words.specs.Words.{border_of, in_front}
 use Rattle.automaton.specs.Arrows.{targets_below, arrows_below}
 use Rattle.automaton.proofs.Preparing.{dropped_is, border_one}
@@ -17,7 +16,7 @@ use Rattle.automaton.proofs.FewArrows.{few_below}
 use Rattle.sheets.specs.declared.filling.Filled.{Filled}
 use Rattle.sheets.specs.Sheet.{number, numbers, counts_below, layout, longest_short, number_width, front, code_start, sheet, count_place, target_place}
 use Rattle.sheets.specs.Sheet.{sheet_room}
-use Rattle.sheets.specs.Inside.{Fits, FrontMade, CodeMade, header, FilledWith, FilledTo, StateMade}
+use Rattle.sheets.specs.Inside.{Fits, Filling, FrontMade, CodeMade, header, FilledWith, FilledTo, StateMade}
 use Rattle.sheets.specs.Inside.{StatesMade, SheetMade}
 use Rattle.sheets.proofs.Layouts.{length_number, length_numbers, numbers_snoc}
 use Rattle.sheets.proofs.Widths.{short_front, wide_front, wide_width, front_long, count_next, count_rises, target_first, target_next}
@@ -50,16 +49,17 @@ module _ (m : ℕ) (a : List ℕ) (room : target_place m 0 ≤ length a) where
       (puts_front (number 2 m) zero
       (omega (arith, length_number 2 m, places_before m, wide_width m h, h)) (omega (arith, length-set a 0 0, room)))
 
--- THE CODE, put behind it
-pub code_put : {a b : List ℕ} (w : List ℕ) (start : ℕ) → FrontMade (length w) a b → start ≡ code_start (length w) → target_place (length w) 0 ≤ length b →
-    CodeMade w a (take start b ++ (w ++ drop (length w) (drop start b)))
-code_put {a} {b} w start f e h =
+-- THE CODE, byte by byte
+pub code_more : {a b : List ℕ} (w : List ℕ) (i : ℕ) → i < length w → target_place (length w) 0 ≤ length b →
+    Filling (target_place (length w) 0) (front (length w) ++ take i w) [] a b →
+    Filling (target_place (length w) 0) (front (length w) ++ take (i + 1) w) [] a (set b (code_start (length w) + i) (get_or w i 0))
+code_more {a} {b} w i l h f =
     let m : ℕ = length w in
-    let inside : start + m ≤ length b = omega (arith, e, places_before m, h) in
-    let at : start ≡ length (front m) = e ∙ sym (front_long m) in
-    rw (drop-drop m start b)
-    (subst (CodeMade w a) (sets-eq w b start inside ∙ append_assoc (take start b) w (drop (start + m) b))
-    (rw at (puts_front w f (omega (arith, front_long m, places_before m)) h)))
+    let size : length (front m ++ take i w) ≡ code_start m + i =
+    length-append (front m) (take i w) ∙ omega (arith, front_long m, length-take-le i w (omega arith)) in
+    let more : front m ++ take (i + 1) w ≡ (front m ++ take i w) ++ (get_or w i 0 ∷ []) =
+    rw (add-one i, take-suc w i 0 l) (sym (append_assoc (front m) (take i w) (get_or w i 0 ∷ []))) in
+    rw (more, ← size) (put_front f (get_or w i 0) (omega (arith, size, places_before m)) h)
 
 -- STATE 0 has no targets
 none_below : (w : List ℕ) → targets_below w 1 ≡ []

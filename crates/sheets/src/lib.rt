@@ -80,7 +80,9 @@ fn named_length(buffer: &[u8]) -> usize
     usize::from(buffer[0])
 }
 
-// Whether a buffer begins with the sheet of an accepted code. A short code has a small work area: to clear the large one takes time.
+// Whether a buffer begins with the sheet of an accepted code. A short code has a small work area: to clear the large one takes time. It is never inlined, so
+// that the area takes no stack while a text is read, and what is here does not move where the loops of feeding begin.
+#[inline(never)]
 fn is_fresh(buffer: &[u8], code: &[u8]) -> bool
     requires { code_refusal code.now ≡ 0 }
     ensures { Freshly buffer.now code.now result }

@@ -1,7 +1,10 @@
--- `put_bytes` meets its contract. Assumes nothing.
-use mathlib.Core.Path.{refl}
-use Rattle.boards.proofs.Splices.{spliced_copy}
+-- `put_bytes` meets its contract. The loop keeps that the bytes passed are written. Assumes nothing.
+use native.Mathlib.Omega.{arith}
+use Rattle.boards.proofs.Splices.{bytes_turn, spliced_none}
 use Rattle.boards.proofs.layout.put_bytes.Goals as goal
 
-pub returns : goal.returns
-returns c = spliced_copy c.copy_from_slice.ensures.after refl c.requires
+pub loop-i-init : goal.loop-i-init
+loop-i-init c = spliced_none c.args.at c.args.area.now
+
+pub loop-i-preserved : goal.loop-i-preserved
+loop-i-preserved c = bytes_turn c.args.bytes.now c.args.area.now c.loop-i.area c.args.at c.loop-i.i c.loop-i.invariant (omega arith) c.requires
