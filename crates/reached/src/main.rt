@@ -4,7 +4,7 @@
 // counted: that is read in `costly` and `steep`.
 #![tactic(auto)]
 
-ghost use Rattle.std.specs.Prelude.{◌≡◌, true, ◌+◌, ◌^◌, ◌≤◌, ◌<◌, length, take};
+ghost use Rattle.std.specs.Prelude.{◌≡◌, true, [], ◌+◌, ◌^◌, ◌≤◌, ◌<◌, length, take};
 ghost use Rattle.words.specs.Words.{byte};
 ghost use Rattle.automaton.specs.Ceilings.{log2};
 ghost use Rattle.automaton.specs.Costs.{cost_after};
@@ -138,11 +138,12 @@ fn steep(m: usize, n: u32) -> Figures
     }
 }
 
-// Writes a line, of 97 bytes at most: what is before the figures, and the figures.
+// Writes a line, of 97 bytes at most, in place of what stood on the page: what is before the figures, and the figures.
 fn put_line(page: &mut Page<LINE>, start: &[u8], f: Figures)
     requires { length start.now ≤ 10 }
-    ensures { PutWithin 97 (figures_form start.now f) 97 page.old page.new }
+    ensures { PutWithin 97 (figures_form start.now f) 97 [] page.new }
 {
+    page.clear();
     page.put_number(start, u64::from(f.m));
     page.put_number(b") (n ", u64::from(f.n));
     page.put_number(b") (cost ", f.cost);
@@ -153,7 +154,7 @@ fn put_line(page: &mut Page<LINE>, start: &[u8], f: Figures)
 // Writes the line of a costly code and its text. The bounds of m stand in each contract: a type of them would be made for two tables of numbers alone.
 fn put_total(page: &mut Page<LINE>, m: usize, n: usize)
     requires { (1 ≤ m) × (m ≤ 4000) × (n ≤ 10007) }
-    ensures { PutWithin 97 (total_form m n) 97 page.old page.new }
+    ensures { PutWithin 97 (total_form m n) 97 [] page.new }
 {
     put_line(page, b"(total (m ", costly(m, n));
 }
@@ -161,7 +162,7 @@ fn put_total(page: &mut Page<LINE>, m: usize, n: usize)
 // Writes the line of a steep code and the byte behind its first n. It stands beside `put_total`, since its contract names another form and other lengths.
 fn put_byte(page: &mut Page<LINE>, m: usize, n: u32)
     requires { (1 ≤ m) × (m ≤ 4000) × (n + 1 ≡ 2 ^ log2 m) }
-    ensures { PutWithin 97 (byte_form m n) 97 page.old page.new }
+    ensures { PutWithin 97 (byte_form m n) 97 [] page.new }
 {
     put_line(page, b"(byte (m ", steep(m, n));
 }
@@ -192,12 +193,10 @@ const BYTES: [(usize, u32); 7] = [
 fn main() {
     let mut page = Page::new();
     for (m, n) in TOTALS {
-        page.clear();
         put_total(&mut page, m, n);
         io::write_all(1, page.bytes());
     }
     for (m, n) in BYTES {
-        page.clear();
         put_byte(&mut page, m, n);
         io::write_all(1, page.bytes());
     }
