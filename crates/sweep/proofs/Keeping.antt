@@ -104,7 +104,7 @@ kept_long k n e =
 
 module _ {f : List ℕ} {c d : Codes} (put : Put f (suc most_bytes) c.bytes d.bytes) (empties : d.empty ≡ (c.empty || eqb (length f) 0))
     (longs : d.long ≡ (c.long || ltb longest_code (length f))) where
-  kept_more : ((ls : List ℕ) → InList (suc most_codes) ls c.count c.lengths → InList (suc most_codes) (ls ++ (length f ∷ [])) d.count d.lengths) → Adds f c d
+  pub kept_more : ((ls : List ℕ) → InList (suc most_codes) ls c.count c.lengths → InList (suc most_codes) (ls ++ (length f ∷ [])) d.count d.lengths) → Adds f c d
   kept_more listed ws code i k =
       let lengths : map length (ws ++ (code ∷ [])) ≡ map length ws ++ (length code ∷ []) = map-append (λ (w : List ℕ). length w) ws (code ∷ []) in
       record {
